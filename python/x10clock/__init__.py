@@ -13,8 +13,8 @@ refused program raises `Refused`, a refused log `BadLog`. `python -m x10clock` g
 from x10clock.faults import BadLog, BadWords, Fault, OutOfMemory, Refused
 from x10clock.grading import Asked, Verdict, judge
 from x10clock.library import Answer, Program, call
-from x10clock.programs import Bounds, Outcome, Outcomes, Races, Run, check, events, explain, held_against
-from x10clock.programs import outcomes, page, page_of_outcome, races, replay, run, where
+from x10clock.programs import Bounds, Broken, Count, Outcome, Outcomes, Races, Run, check, count, diagnose, events
+from x10clock.programs import explain, held_against, outcomes, page, page_of_outcome, races, replay, run, where
 from x10clock.stepping import Moment, Stepper
 
 __all__ = (
@@ -23,6 +23,8 @@ __all__ = (
     "BadLog",
     "BadWords",
     "Bounds",
+    "Broken",
+    "Count",
     "Fault",
     "Moment",
     "OutOfMemory",
@@ -36,6 +38,8 @@ __all__ = (
     "Verdict",
     "call",
     "check",
+    "count",
+    "diagnose",
     "events",
     "explain",
     "held_against",

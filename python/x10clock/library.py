@@ -38,6 +38,22 @@ class Checked(ctypes.Structure):
     ]
 
 
+class Diagnosis(ctypes.Structure):
+    """`struct x10clock_diagnosis`: the same, and the line and the column, or 0 where there is none."""
+
+    _fields_ = [
+        ("steps", ctypes.c_uint64),
+        ("at", ctypes.c_size_t),
+        ("line", ctypes.c_size_t),
+        ("column", ctypes.c_size_t),
+        ("activities", ctypes.c_uint32),
+        ("clocks", ctypes.c_uint32),
+        ("family", ctypes.c_uint32),
+        ("number", ctypes.c_uint32),
+        ("unit", ctypes.c_uint32),
+    ]
+
+
 @dataclass(frozen=True)
 class Answer:
     """What a call answers: its status, and what the program would write."""
@@ -66,6 +82,8 @@ def library() -> Any:
     loaded.x10clock_call.restype = ctypes.c_uint8
     loaded.x10clock_check.argtypes = [text, size, ctypes.POINTER(Checked)]
     loaded.x10clock_check.restype = ctypes.c_uint8
+    loaded.x10clock_diagnose.argtypes = [text, size, ctypes.POINTER(Diagnosis)]
+    loaded.x10clock_diagnose.restype = ctypes.c_uint8
     return loaded
 
 
@@ -109,4 +127,11 @@ def verdict(program: Program) -> tuple[int, Checked]:
     """The verdict on a source text, by `x10clock_check`: the status, and numbers."""
     text, told = held(program), Checked()
     status: int = library().x10clock_check(text, len(text), ctypes.byref(told))
+    return status, told
+
+
+def diagnosis(program: Program) -> tuple[int, Diagnosis]:
+    """The verdict on a source text with its line and column, by `x10clock_diagnose`."""
+    text, told = held(program), Diagnosis()
+    status: int = library().x10clock_diagnose(text, len(text), ctypes.byref(told))
     return status, told

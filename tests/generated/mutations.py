@@ -427,6 +427,7 @@ class Comparer:
                 ["lanes", "--rounds"],
                 ["page"],
                 ["races"],
+                ["races", "--json"],
                 ["span"],
                 ["where"],
                 ["where", f"--at={step}"],
@@ -442,6 +443,7 @@ class Comparer:
                         is_picture="--svg" in flags,
                         at=step if flags and command == "where" else None,
                         step=of,
+                        is_json="--json" in flags,
                         has_path="--path" in flags,
                         by_rounds="--rounds" in flags,
                     )

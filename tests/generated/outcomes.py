@@ -163,6 +163,24 @@ class Asker:
         if answer[0] != 0 or asked.told(tuple(map(int, printed))) != lists[pick - 1]:
             yield f"its log is played again: {answer}"
 
+    def counted(self, limit: int | None) -> Iterator[str]:
+        """What is wrong with the count of outcomes, with this limit."""
+        file = self.program.folder / "text"
+        file.write_bytes(self.case.text.data)
+        options = [*(["--sets"] if self.sets else []), *(["--limit", limit] if limit else [])]
+        status, out, err = self.program.call("outcomes", *self.case.text.words(), *options, "--count", file)
+        listed = self.program.call("outcomes", *self.case.text.words(), *options, file)
+        self.counts["counts that are whole" if status == outcomes.WHOLE else "counts that aren't whole"] += 1
+        asked, given = Asked(limit or outcomes.USUAL_LIMIT, None, self.sets), Answer(status, out)
+        module, arguments = self.case.judged.module, self.case.text.arguments
+        wrong = [*outcomes.count_faults(self.case.walk, module, arguments, asked, given)]
+        wrong += [f"on standard error: {err}"] if err else []
+        if not wrong and listed[1] and int(out.split()[1]) < len(outcomes.read(listed[1])[0]):
+            wrong.append("more are listed than are counted")
+        if not wrong and listed[0] == outcomes.WHOLE != status:
+            wrong.append("the list is whole")
+        yield from (f"outcomes --count {' '.join(map(str, options))}: {what}: {(status, out)}" for what in wrong)
+
     def paged(self, limit: int | None, pick: int) -> Iterator[str]:
         """What is wrong with the page of this outcome: it is that of its log, with the same limit."""
         file, log = self.program.folder / "text", self.program.folder / "made"
@@ -275,6 +293,8 @@ class Asker:
             [1, 2, 3, 10, max(1, count - 1), count, count + 1, outcomes.SPARE * asked.worlds(self.case.walk) + 1]
         )
         yield from self.asked(limit, rng.choice([None, 1, 2, count]))
+        yield from self.counted(None)
+        yield from self.counted(limit)
         if not self.sets:
             pick = rng.choice([1, count, rng.randrange(count) + 1, count + 1])
             yield from self.paged(rng.choice([None, limit]), pick)

@@ -100,7 +100,7 @@ def options(rng: random.Random, command: str, text: str) -> Iterator[list[str]]:
     """Some options of a command, mostly such as could be meant with this text."""
     if command != "compile" and text.endswith(".json") != (rng.random() < 0.1):
         yield ["--module"]
-    tells_json = command in ("check", "explain", "run", "outcomes", "events")
+    tells_json = command in ("check", "explain", "run", "outcomes", "events", "races")
     if tells_json and rng.random() < (0.5 if command == "explain" else 0.3) or rng.random() < 0.02:
         yield ["--json"]
     if command == "run" and rng.random() < 0.4:
@@ -125,6 +125,8 @@ def options(rng: random.Random, command: str, text: str) -> Iterator[list[str]]:
         yield ["--rounds"]
     if command == "outcomes" and rng.random() < 0.3:
         yield ["--sets"]
+    if command == "outcomes" and rng.random() < (0.05 if is_held else 0.25):
+        yield ["--count"]
     if is_held:
         yield option(
             rng, "expect", f"{text[:4]}.list" if rng.random() < 0.5 else rng.choice(["part.list", "stray.list", *NAMES])
@@ -346,7 +348,9 @@ def outcome_faults(job: Job, given: str, got: Told, left: Folder, there: Folder)
     walk, asked, answer = (
         outcomes.walked(module, numbers), command_line.asked_outcomes(job), Answer(got.status, got.out, log)
     )
-    if "expect" in job.values:
+    if "count" in job.flags:
+        faults = outcomes.count_faults(walk, module, numbers, asked, answer)
+    elif "expect" in job.values:
         faults = outcomes.held_faults(walk, asked, outcomes.expected(contents_of(job.values["expect"])), answer)
     else:
         faults = outcomes.faults(walk, module, numbers, asked, answer)

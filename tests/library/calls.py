@@ -18,6 +18,7 @@ from __future__ import annotations
 
 import argparse
 import concurrent.futures
+import json
 import os
 import pathlib
 import re
@@ -30,7 +31,7 @@ from collections.abc import Iterable, Iterator, Sequence
 from dataclasses import dataclass
 
 import x10clock
-from x10clock.library import verdict
+from x10clock.library import diagnosis, verdict
 
 from tests import harness
 from tests.generated.mutations import row_texts
@@ -100,6 +101,7 @@ def first_questions(text: bytes, form: tuple[str, ...]) -> Iterator[Question]:
     yield Question(("run", *form, "--order", "random", "--runs", "3", "mine"), text)
     yield Question(("run", *form, "--order", "ask", "--log", "log", "mine"), text, ANSWERS, by_hand=True)
     yield Question(("races", *form, "mine"), text)
+    yield Question(("races", "--json", *form, "mine"), text)
     yield Question(("outcomes", *form, "--limit", "50", "--log", "log", "mine"), text)
     yield Question(("outcomes", *form, "--limit", "50", "--expect", "beside", "mine"), text, LIST)
 
@@ -111,6 +113,7 @@ def further_questions(text: bytes, form: tuple[str, ...], log: bytes) -> Iterato
     for command in ("replay", "races", "span"):
         yield Question((command, *form, "mine", "beside"), text, log)
         yield Question((command, *form, "mine", "beside"), text, log[: len(log) // 2])
+    yield Question(("races", "--json", *form, "mine", "beside"), text, log)
     yield Question(("why", *form, "mine", "beside", "2"), text, log)
 
 
@@ -193,7 +196,7 @@ def differing(program: pathlib.Path, caller: pathlib.Path, asked: Sequence[Quest
     for one, in_c in zip(asked, from_c, strict=True):
         wanted = by_program(program, one)
         if one.words == ("check", "mine"):
-            wrong += wrong_numbers(one.program, wanted)
+            wrong += wrong_numbers(one.program, wanted) + wrong_place(one.program)
         for who, got in (("C", in_c), ("Python", by_python(one))):
             if got != wanted:
                 wrong.append(f"{who}: {' '.join(one.words)} of {one.program[:60]!r}: {got!r:.300}, not {wanted!r:.300}")
@@ -210,6 +213,16 @@ def wrong_numbers(text: bytes, said: tuple[int, bytes, bytes, bytes]) -> list[st
         wanted, got = [int(number), int(unit), int(at)], [told.number, told.unit, told.at]
         wanted, got = [*wanted, " FV".index(family)], [*got, told.family]
     return [] if (status, got) == (said[0], wanted) else [f"typed: {text[:60]!r}: {status} {got}, not {said!r:.300}"]
+
+
+def wrong_place(text: bytes) -> list[str]:
+    """Where `x10clock_diagnose` tells other numbers than `x10clock_check`, or another place than `explain --json`."""
+    (status, told), (checked, numbers) = diagnosis(text), verdict(text)
+    said = json.loads(x10clock.call(["explain", "--json", "mine"], text).out) if status == 1 else {}
+    wanted = [checked, said.get("line", 0), said.get("column", 0)]
+    wanted += [getattr(numbers, field) for field, _ in numbers._fields_]
+    got = [status, told.line, told.column, *(getattr(told, field) for field, _ in numbers._fields_)]
+    return [] if got == wanted else [f"placed: {text[:60]!r}: {got}, not {wanted}"]
 
 
 def watched(caller: pathlib.Path, asked: Sequence[Question]) -> str:

@@ -22,6 +22,11 @@ PYTHON = TOP / "python/x10clock/library.py"
 NUMBERS = {"u8": "uint8_t", "u32": "uint32_t", "u64": "uint64_t", "usize": "size_t"}
 EXPORT = re.compile(r'#\[unsafe\(no_mangle\)\]\s*pub extern "C" fn (\w+)\(([^)]*)\) -> (\w+)')
 STRUCT = re.compile(r"#\[repr\(C\)\][^{]*pub struct (\w+) \{([^}]*)\}")
+# What is the other way round in a header that is wrong on purpose: two parameters, and two fields.
+TURNED = (
+    ("size_t err_length, uint8_t *log", "uint8_t *log, size_t err_length"),
+    ("size_t line;\n    size_t column;", "size_t column;\n    size_t line;"),
+)
 PROTOTYPE = re.compile(r"^(\w+) (\w+)\(([^)]*)\);", re.MULTILINE)
 C_STRUCT = re.compile(r"^struct (\w+) \{([^}]*)\};", re.MULTILINE)
 
@@ -80,7 +85,7 @@ def differing(code: dict[str, str], header: dict[str, str]) -> Iterator[str]:
 def wrong_python(header: dict[str, str], text: str) -> Iterator[str]:
     """What Python tells ctypes in another way: so many pointers and lengths, and the fields of the lengths."""
     kinds_of = {kind: f"c_{kind.removesuffix('_t')}" if kind != "size_t" else "c_size_t" for kind in NUMBERS.values()}
-    for name in ("Lengths", "Checked"):
+    for name in ("Lengths", "Checked", "Diagnosis"):
         declared_so = (field.split() for field in header[name_of(name)].split("; "))
         fields = [(field, kinds_of[kind]) for kind, field in declared_so]
         part = text.partition(f"class {name}(")[2].partition("\nclass ")[0].partition("\n@")[0]
@@ -99,9 +104,10 @@ def main() -> int:
     header = declared(HEADER.read_text("utf-8"))
     wrong = [*differing(code, header), *wrong_python(header, PYTHON.read_text("utf-8"))]
     # A header that is wrong on purpose is seen.
-    turned = HEADER.read_text("utf-8").replace("size_t err_length, uint8_t *log", "uint8_t *log, size_t err_length", 1)
-    if not list(differing(code, declared(turned))):
-        wrong.append("a header with two parameters the other way round isn't seen")
+    for right, turned in TURNED:
+        text = HEADER.read_text("utf-8").replace(right, turned, 1)
+        if not list(differing(code, declared(text))):
+            wrong.append(f"a header that has {turned!r} isn't seen")
     print(*wrong, sep="\n", end="\n" if wrong else "")
     print(f"header: {len(code)} functions and structs, {len(wrong)} faults")
     return 1 if wrong or not code else 0

@@ -67,6 +67,10 @@ def checks() -> None:
     fault = fault_of(x10clock.Refused, lambda: x10clock.check(DROPPED))
     want("rule", getattr(fault, "rule", ""), "V11")
     want("line", x10clock.explain(DROPPED)["line"], 8)
+    want("place", x10clock.diagnose(DROPPED), x10clock.Broken("V11", 8, 9))
+    want("place of a fault of syntax", x10clock.diagnose("def main() {\n  val n = 1\n}"), x10clock.Broken("F2", 3, 1))
+    want("no place", x10clock.diagnose("def f() {}"), x10clock.Broken("F9", None, None))
+    want("no fault", x10clock.diagnose(SEVEN), None)
     want("accepted", x10clock.explain(SEVEN)["accepted"], True)
     fault_of(x10clock.BadWords, lambda: x10clock.run(SEVEN, order="upwards"))
     want("A1", getattr(fault_of(x10clock.Refused, lambda: x10clock.run(TAKES_ONE)), "rule", ""), "A1")
@@ -89,6 +93,7 @@ def runs() -> None:
     want("page", x10clock.page(IN_STEP, run.log)[:15], b"<!DOCTYPE html>")
     want("races", x10clock.races(IN_STEP).count, 0)
     want("races of a log", x10clock.races(IN_STEP, log=run.log).count, 0)
+    want("every schedule", x10clock.races(IN_STEP).told["every_schedule"], True)
 
 
 def searches() -> None:

@@ -231,7 +231,8 @@ def fifo(tried: Tried) -> None:
 
 def strange_files(tried: Tried) -> None:
     for command in (
-        "check", "explain", "explain --json", "listing", "compile", "run", "outcomes", "outcomes --sets", "races",
+        "check", "explain", "explain --json", "listing", "compile", "run", "outcomes", "outcomes --sets",
+        "outcomes --count", "races",
         "run --order random --runs 2", "run --order greedy", "check --module",
     ):  # fmt: skip
         tried.answers(f"exec $x {command} .", 5, err=unopened(command, ".", FOLDER))

@@ -39,6 +39,7 @@ PROCESSORS_ALONE = "x10clock: --processors goes with --order greedy"
 RUNS_MISPLACED = "x10clock: --runs goes with --order random, and not with --log"
 LIST_MISPLACED = "x10clock: --expect goes without --log and --pick"
 PICK_ALONE = "x10clock: --pick goes with --log"
+COUNT_MISPLACED = "x10clock: --count goes without --expect, --json, --log and --pick"
 JSON_MISPLACED = "x10clock: --json goes without --order ask and --runs"
 ROUNDS_MISPLACED = "x10clock: --rounds goes without --path, --svg, --from and --to"
 PAGE_UNCLEAR = "x10clock: page takes either LOG or --outcome, and --limit goes with --outcome"
@@ -120,8 +121,8 @@ COMMANDS: dict[str, tuple[set[str], set[str], list[str]]] = {
     "compile": (set(), set(), ["FILE"]),
     "listing": (set(), {"module"}, ["FILE"]),
     "run": ({"order", "seed", "runs", "processors", "workers", "log", "arg"}, {"module", "json"}, ["FILE"]),
-    "outcomes": ({"limit", "pick", "log", "expect", "arg"}, {"module", "sets", "json"}, ["FILE"]),
-    "races": ({"arg"}, {"module"}, ["FILE", "LOG" + MAYBE]),
+    "outcomes": ({"limit", "pick", "log", "expect", "arg"}, {"module", "sets", "count", "json"}, ["FILE"]),
+    "races": ({"arg"}, {"module", "json"}, ["FILE", "LOG" + MAYBE]),
     "replay": ({"arg"}, {"module"}, ["FILE", "LOG"]),
     "chart": ({"arg"}, {"module"}, ["FILE", "LOG"]),
     "events": ({"arg"}, {"module", "json"}, ["FILE", "LOG"]),
@@ -317,6 +318,8 @@ def read(words: list[str]) -> Job:
             raise Mistake(LIST_MISPLACED)
         if "pick" in job.values and "log" not in job.values:
             raise Mistake(PICK_ALONE)
+        if "count" in job.flags and ({"log", "pick", "expect"} & {*job.values} or "json" in job.flags):
+            raise Mistake(COUNT_MISPLACED)
         if first == "page" and is_unclear(job):
             raise Mistake(PAGE_UNCLEAR)
         if "json" in job.flags and (job.values.get("order") == ASK or "runs" in job.values):
@@ -496,6 +499,8 @@ def searched(job: Job, judged: Accepted, log: BinaryIO | None) -> Told:
     walk = outcomes.walked(judged.module, tuple(job.numbers))
     if walk is None:
         raise TooLong
+    if "count" in job.flags:
+        return Told(*outcomes.counted(walk, asked_outcomes(job))[:2])
     answer = outcomes.answer(walk, asked_outcomes(job))
     if log:
         log.write(answer.log)

@@ -10,8 +10,9 @@ Where sets are asked for, lists of the same numbers, each as often, in whatever 
 rising.
 
 Outcomes may be held against a list, a text of such lines: then one is printed that isn't in it, or how many they are.
+They may be counted: then it is printed how many they are.
 
-    python3 -m tests.reference.outcomes [--module] [--sets] [--expect=LIST] FILE [LIMIT] [--arg=N]..
+    python3 -m tests.reference.outcomes [--module] [--sets] [--count] [--expect=LIST] FILE [LIMIT] [--arg=N]..
 """
 
 from __future__ import annotations
@@ -223,6 +224,30 @@ def answer(walk: Walk, asked: Asked) -> Answer:
     return Answer(status_of(asked, len(lists), is_complete), text_of(lists, is_complete), log)
 
 
+def counted(walk: Walk, asked: Asked) -> Answer:
+    """An answer that may be given where outcomes are counted."""
+    return Answer(WHOLE, f"outcomes {len(asked.outcomes(walk))} complete\n")
+
+
+def count_faults(walk: Walk | None, module: Module, arguments: Arguments, asked: Asked, given: Answer) -> Iterator[str]:
+    """What is wrong with a count; where the walk is too long, by the runs before any search alone."""
+    last = LAST.fullmatch(given.out.removesuffix("\n"))
+    if not last or given.out != f"{last[0]}\n":
+        yield "no count is told"
+        return
+    count, is_complete = int(last[1]), last[2] == "complete"
+    if given.status != (WHOLE if is_complete else NOT_WHOLE):
+        yield f"the status is {given.status}"
+    if count < len(asked.plain(module, arguments)):
+        yield "runs before any search print more"
+    if walk:
+        there = len(asked.outcomes(walk))
+        if count > there or is_complete and count < there:
+            yield f"there are {there} outcomes"
+        if not is_complete and count < asked.limit and SPARE * asked.worlds(walk) <= asked.limit:
+            yield f"not complete, and there are {asked.worlds(walk)} worlds"
+
+
 def read(out: str) -> tuple[list[Numbers], bool] | None:
     """The outcomes that a text tells, and whether it says that they are all; None where it is no such text."""
     *lines, last = out.splitlines() or [""]
@@ -305,8 +330,8 @@ def faults(walk: Walk | None, module: Module, arguments: Arguments, asked: Asked
     if len(lists) > asked.most:
         yield "more are told than the limit says"
     plain = asked.plain(module, arguments)
-    if is_complete and not asked.sets and lists != [*plain, *sorted({*lists}.difference(plain))]:
-        yield "what is told behind the runs before any search doesn't rise"
+    if not asked.sets and lists != [*plain, *sorted({*lists}.difference(plain))]:
+        yield "the runs before any search aren't first, or what is told behind them doesn't rise"
     lacking = set() if is_complete else {*plain} - {*lists}
     if lacking:
         yield f"a run before any search prints {sorted(lacking)}"
@@ -325,8 +350,12 @@ def against_walk(walk: Walk, asked: Asked, told: set[Numbers], is_complete: bool
         yield f"no run prints {sorted(told - outcomes)}"
     if is_complete and outcomes - told:
         yield f"left out: {sorted(outcomes - told)}"
-    if not is_complete and len(told) < asked.limit and SPARE * asked.worlds(walk) <= asked.limit:
+    are_few = SPARE * asked.worlds(walk) <= asked.limit
+    if not is_complete and len(told) < asked.limit and are_few:
         yield f"not complete, and there are {asked.worlds(walk)} worlds"
+    rest = sorted(told.difference(asked.plain(walk.module, walk.arguments)))
+    if not asked.sets and are_few and rest != sorted(outcomes - told | {*rest})[: len(rest)]:
+        yield "one that isn't told comes before one that is, behind the runs before any search"
 
 
 def log_faults(module: Module, arguments: Arguments, asked: Asked, picked: list[Numbers], log: bytes) -> Iterator[str]:
@@ -346,8 +375,8 @@ def log_faults(module: Module, arguments: Arguments, asked: Asked, picked: list[
 
 def main(words: list[str]) -> int:
     more, arguments = modules.parted(words)
-    is_module, are_sets = "--module" in more, "--sets" in more
-    path, *limit = [word for word in more if word not in ("--module", "--sets") and not word.startswith("--expect=")]
+    is_module, are_sets, are_counted = (f"--{flag}" in more for flag in ("module", "sets", "count"))
+    path, *limit = [word for word in more if not word.startswith("--")]
     lists = [word.removeprefix("--expect=") for word in more if word.startswith("--expect=")]
     data = pathlib.Path(path).read_bytes()
     judged = modules.judge(data) if is_module else source.judge(data)
@@ -361,11 +390,8 @@ def main(words: list[str]) -> int:
     except Stray as fault:
         print(f"x10clock: {fault}", file=sys.stderr)
         return NO_LIST
-    told = (
-        held(Walk(judged.module, arguments), asked, texts[0])
-        if texts
-        else answer(Walk(judged.module, arguments), asked)
-    )
+    walk = Walk(judged.module, arguments)
+    told = held(walk, asked, texts[0]) if texts else counted(walk, asked) if are_counted else answer(walk, asked)
     print(told.out, end="")
     return told.status
 

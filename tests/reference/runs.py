@@ -73,6 +73,8 @@ def teller(
         return lambda played: values.steps(program, played)
     if command == "events":
         return lambda played: with_ending(naming.text(program, played), played)
+    if command == "races" and is_json:
+        return lambda played: values.racing(program, played)
     of_program = {"races": races_of, "span": span_of, "why": partial(why.why, step=step)}
     if command in of_program:
         return partial(of_program[command], program)

@@ -542,6 +542,7 @@ fn is_left_open(command: &Command<'_>) -> bool
         | Command::Why { .. }
         | Command::Races { .. }
         | Command::Outcomes { .. }
+        | Command::Count { .. }
         | Command::Expected { .. }
         | Command::Json(_) => true,
     }

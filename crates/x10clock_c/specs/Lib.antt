@@ -1,3 +1,4 @@
 pub mod Words
 pub mod Call
 pub mod Check
+pub mod Diagnosis

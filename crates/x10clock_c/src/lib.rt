@@ -7,14 +7,17 @@ ghost use Rattle.xk_jobs.specs.Status.{status_device, status_done, status_memory
 ghost use Rattle.xk_serve.specs.Answer.{Reply};
 ghost use Rattle.x10clock_c.specs.Call.{AnswersCall, AreKept, AreShown};
 ghost use Rattle.x10clock_c.specs.Check.{AcceptsAs, RefusesAs, nothing_told};
+ghost use Rattle.x10clock_c.specs.Diagnosis.{AcceptsSo, RefusesSo, nothing_diagnosed};
 
 mod answer;
+mod diagnosis;
 mod page;
 mod request;
 mod room;
 mod verdict;
 mod words;
 
+use diagnosis::{Diagnosed, Diagnosis, NOTHING_DIAGNOSED, diagnosis_of};
 use request::answer_to;
 use room::Lengths;
 use std::alloc::Global;
@@ -81,6 +84,31 @@ pub extern "C" fn x10clock_check(alloc: Global, program: &[u8], told: &mut Check
         }
         Err(_) => {
             *told = NOTHING_TOLD;
+            status::MEMORY
+        }
+    }
+}
+
+/// The same, and in which line and column the rule is broken, as `explain` shows it: 0 where there is no such place.
+#[unsafe(no_mangle)]
+pub extern "C" fn x10clock_diagnose(alloc: Global, program: &[u8], told: &mut Diagnosis) -> u8
+    ensures known { (result ≡ status_done)
+        ⊎ ((result ≡ status_program) ⊎ (result ≡ status_memory)) }
+    ensures accepted { result ≡ status_done → AcceptsSo program.now told.new }
+    ensures refused { result ≡ status_program → RefusesSo program.now told.new }
+    ensures untold { result ≡ status_memory → told.new ≡ nothing_diagnosed }
+{
+    match diagnosis_of(alloc, program) {
+        Ok(Diagnosed::Accepted(bounds)) => {
+            *told = bounds;
+            status::DONE
+        }
+        Ok(Diagnosed::Refused(broken)) => {
+            *told = broken;
+            status::PROGRAM
+        }
+        Err(_) => {
+            *told = NOTHING_DIAGNOSED;
             status::MEMORY
         }
     }

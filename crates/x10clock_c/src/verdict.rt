@@ -76,7 +76,7 @@ fn accepted_in(alloc: Global, program: &[u8]) -> Result<Verified, Fault>
 }
 
 /// The bounds on the runs of a module.
-fn bounds_of(verified: &Verified) -> Checked
+pub(crate) fn bounds_of(verified: &Verified) -> Checked
     ensures { result ≡ bounds_told verified.now }
 {
     Checked {
@@ -107,7 +107,7 @@ fn fault_told(fault: &Fault) -> Option<Checked>
 }
 
 /// A rule on source texts.
-fn front_told(fault: FrontFault) -> Checked
+pub(crate) fn front_told(fault: FrontFault) -> Checked
     ensures { result ≡ front_told fault }
 {
     Checked {
@@ -119,7 +119,7 @@ fn front_told(fault: FrontFault) -> Checked
 }
 
 /// A rule of the verifier's.
-fn refusal_told(refusal: &Refusal) -> Option<Checked>
+pub(crate) fn refusal_told(refusal: &Refusal) -> Option<Checked>
     ensures { result ≡ refusal_told refusal.now }
 {
     match refusal {

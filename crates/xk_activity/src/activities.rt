@@ -82,6 +82,20 @@ impl<'m> Activities<'m> {
         Ok(Activities { verified, list })
     }
 
+    /// The same activities, with as much room, from the memory that these are in.
+    pub fn copy(&self) -> Result<Activities<'m>, AllocError>
+        ensures { IfOk result (λ s. s ≡ self.now) }
+    {
+        let mut list = Vec::with_capacity(*self.list.allocator(), self.list.capacity())?;
+        for act in &self.list {
+            list.push_reserved(act.copy()?);
+        }
+        Ok(Activities {
+            verified: self.verified,
+            list,
+        })
+    }
+
     /// The module that they run.
     pub fn verified(&self) -> &'m Verified
         ensures { result.now ≡ self.now.module_run }

@@ -1,6 +1,6 @@
 //! One activity, but for its finishes.
 
-ghost use Rattle.std.specs.Prelude.{◌≡◌, ℤ, ℕ, ◌<◌, ◌≤◌, length, Some, slice_set};
+ghost use Rattle.std.specs.Prelude.{◌≡◌, ℤ, ℕ, ◌<◌, ◌≤◌, length, Some, slice_set, IfOk};
 ghost use Rattle.xk_types.specs.declared.world.Value.TheVariants as value;
 ghost use Rattle.xk_types.specs.World.{is_ended, root};
 ghost use Rattle.xk_types.specs.Step.{governing, slot_at, onward, with_slots, arrived, ended, past};
@@ -9,6 +9,7 @@ ghost use Rattle.xk_activity.specs.StepAgreement.{frames_in, with_frames};
 ghost use Rattle.xk_activity.specs.Activities.{fresh, with_act, Stands, Takes};
 
 use crate::frames::{Frames, Next};
+use std::alloc::AllocError;
 use std::marker::Model;
 use xk_types::{ClockId, Status, Value};
 
@@ -51,6 +52,17 @@ impl<'m> Activity<'m> {
             status: Status::Running,
             since,
         }
+    }
+
+    /// The same activity, from the memory that this one is in.
+    pub(crate) fn copy(&self) -> Result<Activity<'m>, AllocError>
+        ensures { IfOk result (λ a. a ≡ self.now) }
+    {
+        Ok(Activity {
+            frames: self.frames.copy()?,
+            status: self.status,
+            since: self.since,
+        })
     }
 
     /// Whether it runs, waits at an `advance`, or is over.

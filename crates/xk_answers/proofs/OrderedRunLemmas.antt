@@ -154,9 +154,9 @@ is_picture picture.Rounds kind file bytes from m args es last told is h =
 is_picture (picture.Page window) kind file bytes from m args es last told is h =
     let shared = map (λ x. x.now) from.shared.items in
     (shared, (is.1 refl).1, (from.origins, (is.1 refl).0, h ∙ ap (λ t. page_so_far file t window m es last shared from.origins) is.0))
-is_picture picture.Races kind file bytes from m args es last told is h =
+is_picture (picture.Races json) kind file bytes from m args es last told is h =
     let shared = map (λ x. x.now) from.shared.items in
-    (shared, (is.1 refl).1, (from.origins, (is.1 refl).0, h ∙ ap (λ t. races_told t m args es shared from.origins) is.0))
+    (shared, (is.1 refl).1, (from.origins, (is.1 refl).0, h ∙ ap (λ t. races_told json t m args es shared from.origins) is.0))
 is_picture picture.Span kind file bytes from m args es last told is h =
     (from.origins, (is.1 refl).0, h ∙ ap (λ t. span_told t m args es from.origins) is.0)
 is_picture (picture.Why step) kind file bytes from m args es last told is h =

@@ -30,12 +30,15 @@ use Rattle.xk_outcomes.specs.Sets.{AreAllAs, AreDistinctAs, AreShownAs}
 use Rattle.xk_outcomes.specs.declared.listing.Outcome.{Outcome}
 use Rattle.xk_outcomes.specs.LoneOutcomes.{IsOneOfManyAs}
 use Rattle.xk_outcomes.specs.PlainRuns.{ArePlainListedAs}
-use Rattle.xk_outcomes.specs.Text.{completeness, outcomes_text}
+use Rattle.xk_outcome_lists.specs.Text.{completeness, outcomes_text}
 use Rattle.xk_outcomes.specs.declared.all_outcomes.Limit.{Limit}
 use Rattle.xk_outcomes.specs.Limits.{GoesFar, limit_of}
-use Rattle.xk_outcomes.specs.Expected.{AreExpected}
-use Rattle.xk_outcomes.specs.declared.holding.Verdict.{Verdict}
-use Rattle.xk_outcomes.specs.declared.holding.Verdict.TheVariants as verdict
+use Rattle.xk_outcome_lists.specs.Expected.{AreExpected}
+use Rattle.xk_outcome_lists.specs.declared.holding.Verdict.{Verdict}
+use Rattle.xk_outcome_lists.specs.declared.holding.Verdict.TheVariants as verdict
+use Rattle.xk_outcome_count.specs.Counts.{AreAsMany, AreAtLeast, GoesAsFar}
+use Rattle.xk_outcome_count.specs.Text.{count_line}
+use Rattle.xk_outcome_count.specs.declared.counting.Counted.{Counted}
 use Rattle.xk_json.specs.Objects.{json_line}
 use Rattle.xk_show_json.specs.Outcomes.{held_value, outcomes_value}
 use Rattle.xk_show_json.specs.Runs.{run_value}
@@ -55,10 +58,10 @@ pub data Shown : Type 0 where
   OutcomesShown : Bool → Option ℕ → ℕ → Bool → Shown
   ExpectedShown : Bool → Option ℕ → Shown
 
--- what is to be done with a module; what is explained is a JSON value or not; a run is in an order, by rounds, or by workers, and has its log kept or not; some
+-- what is to be done with a module; what is explained is a JSON value or not, and so are races; a run is in an order, by rounds, or by workers, and has its log kept or not; some
 -- picture is drawn of one; it is told how things stand behind a log, or behind so many of its steps, which races the run in the order `first` has, or how often so many runs by chance,
 -- from this seed on, print what; of outcomes, as lists of numbers or without their order, so many are looked for, and of one, counted from 1, the log
--- is kept or not, or they are held against a list, or of one the page of its run is made; or some of this is told as one JSON value
+-- is kept or not, or they are counted, or held against a list, or of one the page of its run is made; or some of this is told as one JSON value
 pub data Doing : Type 0 where
   Check : Doing
   Explain : Bool → Doing
@@ -68,9 +71,10 @@ pub data Doing : Type 0 where
   Replay : Doing
   Draw : Picture → Doing
   Where : Option ℕ → Doing
-  Races : Doing
+  Races : Bool → Doing
   Tally : ℕ → ℕ → Doing
   Outcomes : Bool → Option ℕ → ℕ → Bool → Doing
+  Count : Bool → Option ℕ → Doing
   Expected : Bool → Option ℕ → Doing
   OutcomePage : Window → Option ℕ → ℕ → Doing
   Json : Shown → Doing
@@ -137,6 +141,24 @@ abbrev pub IsFoundOut : ModuleValue → List ℤ → Bool → Limit → ℕ → 
 IsFoundOut m args sets limit pick keeps (done.Outcomes text whole log) =
     AreOutcomes m args sets limit pick keeps text.items whole (option_map (λ es. es.items) log)
 IsFoundOut m args sets limit pick keeps _ = ⊥
+
+-- So many outcomes a module has that is given these arguments, as lists of numbers or without their order. The answer is whole where there are no more.
+-- They are looked for up to this limit.
+pub record AreCounted (m : ModuleValue) (args : List ℤ) (sets : Bool) (limit : Limit) (text : List ℕ) (whole : Bool) (log : Option (List Entry)) : Type 0 where
+  pub taken : AreArguments m args
+  pub counted : Counted
+  pub least : AreAtLeast sets m args counted.count
+  pub exact : counted.complete ≡ true → AreAsMany sets m args counted.count
+  pub lone : counted.complete ≡ false → IsOneOfManyAs sets m args
+  pub far : counted.complete ≡ false → GoesAsFar sets m args limit counted.count
+  pub text_is : text ≡ count_line counted
+  pub whole_is : whole ≡ counted.complete
+  pub log_is : log ≡ None
+
+-- that is what it comes to
+abbrev pub IsCountedOut : ModuleValue → List ℤ → Bool → Limit → Done → Type 0
+IsCountedOut m args sets limit (done.Outcomes text whole log) = AreCounted m args sets limit text.items whole (option_map (λ es. es.items) log)
+IsCountedOut m args sets limit _ = ⊥
 
 -- how many bytes of a list are read at most
 abbrev pub longest_list : ℕ
@@ -226,6 +248,7 @@ ComesTo (Run (By n) true) m args logged (done.Ended numbers steps None (Some log
     IsAccepted m × IsReplay m args log.items numbers.items steps
 ComesTo Replay m args logged (done.Ended numbers steps None None) = IsAccepted m × Replays m args logged numbers.items steps
 ComesTo (Outcomes sets limit pick keeps) m args logged d = IsAccepted m × IsFoundOut m args sets (limit_of limit (activities_bound m)) pick keeps d
+ComesTo (Count sets limit) m args logged d = IsAccepted m × IsCountedOut m args sets (limit_of limit (activities_bound m)) d
 ComesTo (Expected sets limit) m args logged d = IsAccepted m × IsHeldOut m args sets (limit_of limit (activities_bound m)) logged d
 ComesTo (Json s) m args logged d = IsAccepted m × IsShown s m args logged d
 ComesTo _ m args logged _ = ⊥
@@ -242,7 +265,7 @@ IsPicture (picture.Image window) kind file bytes m args es last told = IsByNames
 IsPicture (picture.Path form window) kind file bytes m args es last told = IsByNames kind bytes (path_told form bytes window m es last) told
 IsPicture picture.Rounds kind file bytes m args es last told = IsByNames kind bytes (rounds_told bytes m es last) told
 IsPicture (picture.Page window) kind file bytes m args es last told = IsByNames kind bytes (page_so_far file bytes window m es last) told
-IsPicture picture.Races kind file bytes m args es last told = IsByNames kind bytes (races_told bytes m args es) told
+IsPicture (picture.Races json) kind file bytes m args es last told = IsByNames kind bytes (races_told json bytes m args es) told
 IsPicture picture.Span kind file bytes m args es last told = IsByOrigins kind bytes (span_told bytes m args es) told
 IsPicture (picture.Why step) kind file bytes m args es last told = IsByNames kind bytes (why_told bytes step m args es) told
 
@@ -271,7 +294,7 @@ picture_told (picture.Image window) file bytes shared m args es last origins = i
 picture_told (picture.Path form window) file bytes shared m args es last origins = path_told form bytes window m es last shared origins
 picture_told picture.Rounds file bytes shared m args es last origins = rounds_told bytes m es last shared origins
 picture_told (picture.Page window) file bytes shared m args es last origins = page_so_far file bytes window m es last shared origins
-picture_told picture.Races file bytes shared m args es last origins = races_told bytes m args es shared origins
+picture_told (picture.Races json) file bytes shared m args es last origins = races_told json bytes m args es shared origins
 picture_told picture.Span file bytes shared m args es last origins = span_told bytes m args es origins
 picture_told (picture.Why step) file bytes shared m args es last origins = why_told bytes step m args es shared origins
 
@@ -282,9 +305,9 @@ IsWhereabouts at kind bytes m args logged told =
     AreArguments m args × ((es : List Entry) × IsLogText logged es × IsByNames kind bytes (where_told bytes m args at es) told)
 
 -- the races of the run in the order `first` are told
-abbrev pub AreFirstRaces : Form → List ℕ → ModuleValue → List ℤ → Tale → Type 0
-AreFirstRaces kind bytes m args told = (numbers : List ℤ) × (steps : ℕ) × (es : List Entry) × IsLoggedRun order.First m args numbers steps es
-    × IsByNames kind bytes (races_told bytes m args es) told
+abbrev pub AreFirstRaces : Bool → Form → List ℕ → ModuleValue → List ℤ → Tale → Type 0
+AreFirstRaces json kind bytes m args told = (numbers : List ℤ) × (steps : ℕ) × (es : List Entry) × IsLoggedRun order.First m args numbers steps es
+    × IsByNames kind bytes (races_told json bytes m args es) told
 
 -- What a module can print is looked for up to this limit, and this is the log of the outcome of a number, if it is there; so many outcomes are, which
 -- are all or not.
@@ -331,7 +354,7 @@ IsTelling Listing kind file bytes m args logged told = IsProgramListed kind byte
 IsTelling (Draw picture) kind file bytes m args logged told =
     IsAccepted m × OfRun (is_of_whole picture) m args logged (λ es last. IsPicture picture kind file bytes m args es last told)
 IsTelling (Where at) kind file bytes m args logged told = IsAccepted m × IsWhereabouts at kind bytes m args logged told
-IsTelling Races kind file bytes m args logged told = IsAccepted m × AreFirstRaces kind bytes m args told
+IsTelling (Races json) kind file bytes m args logged told = IsAccepted m × AreFirstRaces json kind bytes m args told
 IsTelling (Tally seed runs) kind file bytes m args logged told = IsAccepted m × AreArguments m args × IsTallied m args seed runs told
 IsTelling (OutcomePage window limit pick) kind file bytes m args logged told =
     IsAccepted m × IsOutcomePage window (limit_of limit (activities_bound m)) pick kind file bytes m args told

@@ -15,7 +15,7 @@ use Rattle.clap.specs.declared.error.kind.ErrorKind.TheVariants as kind
 use Rattle.xk_jobs.specs.WorkerCount.{count_within, most_workers, some_processors}
 use Rattle.xk_cli.specs.Numbers.{count_named, is_numeral, least_number, most_count, most_number, numbers_named}
 use Rattle.xk_jobs.specs.Status.{status_done, status_memory, status_words}
-use Rattle.xk_jobs.specs.Tasks.{Asked, ByHand, By, Chart, Check, Compile, Events, Expected, Explain, Greedy, In, Json, Lanes, Listing, OutcomePage, Outcomes, Page, Races, Rounds, Replay, Run, Span, Tally, Task, Way, Where, Why, hand_task, task_value}
+use Rattle.xk_jobs.specs.Tasks.{Asked, By, ByHand, Chart, Check, Compile, Count, Events, Expected, Explain, Greedy, hand_task, In, Json, Lanes, Listing, OutcomePage, Outcomes, Page, Races, Replay, Rounds, Run, Span, Tally, Task, task_value, Way, Where, Why}
 use Rattle.xk_jobs.specs.declared.job.Command.{Command}
 use Rattle.xk_jobs.specs.declared.job.Form.{Form}
 use Rattle.xk_jobs.specs.declared.job.Form.TheVariants as form
@@ -148,15 +148,15 @@ run_line names = on_file (codes "run")
     (module_flag ∷ order_option names ∷ seed_option ∷ count_option (codes "RUNS") (codes "runs") ∷ count_option (codes "P") (codes "processors")
     ∷ workers_option ∷ log_option ∷ arg_option ∷ json_flag ∷ [])
 
--- prints outcomes, so many at most, of which one may be picked, or holds them against a list
+-- prints outcomes, so many at most, of which one may be picked, or counts them, or holds them against a list
 abbrev pub outcomes_line : App
 outcomes_line = on_file (codes "outcomes")
-    (module_flag ∷ limit_option ∷ count_option (codes "K") (codes "pick") ∷ log_option ∷ flag (codes "sets")
+    (module_flag ∷ limit_option ∷ count_option (codes "K") (codes "pick") ∷ log_option ∷ flag (codes "sets") ∷ flag (codes "count")
     ∷ option (codes "FILE2") (codes "expect") ∷ arg_option ∷ json_flag ∷ [])
 
--- prints races, maybe of the run that a log has
+-- prints races, maybe of the run that a log has, maybe as a JSON value
 abbrev pub races_line : App
-races_line = on_file (codes "races") (module_flag ∷ log_choice ∷ arg_option ∷ [])
+races_line = on_file (codes "races") (module_flag ∷ log_choice ∷ arg_option ∷ json_flag ∷ [])
 
 -- a command of this name on the run that a log has
 abbrev pub on_run : Text → App
@@ -359,11 +359,19 @@ run_by given =
 abbrev pub is_list_misplaced : List Row → Bool
 is_list_misplaced given = is_some (first_of (codes "FILE2") given) && (is_some (first_of (codes "K") given) || is_some (first_of (codes "PATH") given))
 
--- outcomes that are held against this list, or else told, maybe with a log
+-- outcomes that are told, maybe with a log
+abbrev pub listed_of : List Row → Task
+listed_of given = told_as (is_json given)
+    (Outcomes (count_in (codes "LIMIT") given) (count_in (codes "K") given) (first_of (codes "PATH") given) (is_flagged (codes "sets") given))
+
+-- outcomes that are counted
+abbrev pub counted_of : List Row → Task
+counted_of given = Count (count_in (codes "LIMIT") given) (is_flagged (codes "sets") given)
+
+-- outcomes that are held against this list, or else counted or told
 abbrev pub outcomes_of : Option Text → List Row → Task
 outcomes_of (Some list) given = told_as (is_json given) (Expected list (count_in (codes "LIMIT") given) (is_flagged (codes "sets") given))
-outcomes_of None given = told_as (is_json given)
-    (Outcomes (count_in (codes "LIMIT") given) (count_in (codes "K") given) (first_of (codes "PATH") given) (is_flagged (codes "sets") given))
+outcomes_of None given = if is_flagged (codes "count") given then counted_of given else listed_of given
 
 -- `outcomes` with what was given to it
 abbrev pub outcomes_in : List Row → Task
@@ -373,9 +381,16 @@ outcomes_in given = outcomes_of (first_of (codes "FILE2") given) given
 abbrev pub is_pick_alone : List Row → Bool
 is_pick_alone given = is_some (first_of (codes "K") given) && not (is_some (first_of (codes "PATH") given))
 
--- What is held against a list has no log, and an outcome is picked for one.
+-- a count was asked for, and a list, an outcome to pick or a log's path was given, or it is to be told as JSON
+abbrev pub is_count_misplaced : List Row → Bool
+is_count_misplaced given =
+    is_flagged (codes "count") given
+    && (is_some (first_of (codes "FILE2") given) || (is_some (first_of (codes "K") given) || (is_some (first_of (codes "PATH") given) || is_json given)))
+
+-- What is held against a list has no log, an outcome is picked for one, and a count has none of these.
 abbrev pub outcomes_by : List Row → Option Task
-outcomes_by given = if is_list_misplaced given || is_pick_alone given then None else Some (outcomes_in given)
+outcomes_by given =
+    if is_list_misplaced given || is_pick_alone given || is_count_misplaced given then None else Some (outcomes_in given)
 
 -- `lanes` on a log, with what else was given to it
 abbrev pub lanes_on : Text → List Row → Task
@@ -442,6 +457,10 @@ command_on name log given =
     else (if bytes_eq name (codes "span") then Some (Span log)
     else (if bytes_eq name (codes "why") then why_on log given else None))))))
 
+-- `races` with what was given to it
+abbrev pub races_in : List Row → Task
+races_in given = told_as (is_json given) (Races (first_of (codes "LOG") given))
+
 -- the command of a name that wants a log
 abbrev pub command_by_log : Text → List Row → Option Task
 command_by_log name given = option_and_then (λ log. command_on name log given) (first_of (codes "LOG") given)
@@ -459,7 +478,7 @@ command_by name given =
     else (if bytes_eq name (codes "listing") then Some Listing
     else (if bytes_eq name (codes "outcomes") then outcomes_by given
     else (if bytes_eq name (codes "page") then page_by given
-    else (if bytes_eq name (codes "races") then Some (Races (first_of (codes "LOG") given)) else command_by_log name given))))))
+    else (if bytes_eq name (codes "races") then Some (races_in given) else command_by_log name given))))))
 
 -- what the command of a name does, with what else was given to it
 abbrev pub task_by : Text → List Row → Option Task
@@ -488,6 +507,7 @@ is_misfit name given misfit.MisplacedRuns = are_runs_misplaced given
 is_misfit name given misfit.ProcessorsAlone = are_processors_alone given
 is_misfit name given misfit.MisplacedList = is_list_misplaced given
 is_misfit name given misfit.PickAlone = is_pick_alone given
+is_misfit name given misfit.MisplacedCount = is_count_misplaced given
 is_misfit name given misfit.UnclearPage = is_page_unclear name given
 is_misfit name given misfit.MisplacedJson = is_json_misplaced given
 is_misfit name given misfit.MisplacedRounds = are_rounds_misplaced given

@@ -27,6 +27,10 @@ list_line = codes "x10clock: --expect goes without --log and --pick\n"
 abbrev pick_line : List ℕ
 pick_line = codes "x10clock: --pick goes with --log\n"
 
+-- they have a count, and a list, an outcome to pick, a log, or `--json`
+abbrev count_line : List ℕ
+count_line = codes "x10clock: --count goes without --expect, --json, --log and --pick\n"
+
 -- they have a page, and it is unclear of which run
 abbrev page_line : List ℕ
 page_line = codes "x10clock: page takes either LOG or --outcome, and --limit goes with --outcome\n"
@@ -47,6 +51,7 @@ line_of misfit.MisplacedRuns = runs_line
 line_of misfit.ProcessorsAlone = processors_line
 line_of misfit.MisplacedList = list_line
 line_of misfit.PickAlone = pick_line
+line_of misfit.MisplacedCount = count_line
 line_of misfit.UnclearPage = page_line
 line_of misfit.MisplacedJson = json_line
 line_of misfit.MisplacedRounds = rounds_line

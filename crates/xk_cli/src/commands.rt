@@ -155,6 +155,11 @@ fn outcomes_line<'a>(alloc: Global) -> Result<clap::Command<'a>, AllocError>
             "sets",
             "Tells outcomes with the same numbers, in whatever order, as one",
         ),
+        flag(
+            alloc,
+            "count",
+            "Tells how many outcomes there are, and none of them",
+        ),
         option(
             alloc,
             "FILE2",
@@ -177,7 +182,7 @@ fn races_line<'a>(alloc: Global) -> Result<clap::Command<'a>, AllocError>
         alloc,
         "The log of a run of FILE: the run in the order first where nothing is said",
     );
-    let options = [module_flag(alloc), log, arg_option(alloc)];
+    let options = [module_flag(alloc), log, arg_option(alloc), json_flag(alloc)];
     on_file(alloc, "races", about, Vec::from_array(alloc, options)?)
 }
 

@@ -5,7 +5,7 @@ ghost use Rattle.clap.specs.Words.{first_of, found_of, rows_of};
 ghost use Rattle.xk_cli.specs.CommandLine.{are_processors_alone, are_rounds_misplaced, are_runs_misplaced};
 ghost use Rattle.xk_cli.specs.CommandLine.{arguments_in, count_in, drive_in, form_in, is_both};
 ghost use Rattle.xk_cli.specs.CommandLine.{is_flagged, is_list_misplaced, is_order, is_pick_alone, is_seed_alone, order_in};
-ghost use Rattle.xk_cli.specs.CommandLine.{is_json, is_json_misplaced, is_page_unclear};
+ghost use Rattle.xk_cli.specs.CommandLine.{is_count_misplaced, is_json, is_json_misplaced, is_page_unclear};
 ghost use Rattle.xk_cli.specs.CommandLine.{is_run_unclear, order_named, processors_in, seed_in};
 ghost use Rattle.xk_jobs.specs.Tasks.{way_value};
 ghost use Rattle.xk_cli.specs.CommandLine.{workers_in, workers_named};
@@ -42,6 +42,17 @@ pub(crate) fn is_pick_alone(given: &ArgMatches<'_>) -> bool
     ensures { result ≡ is_pick_alone (rows_of (found_of given.now)) }
 {
     given_in(given, "K").is_some() && !given_in(given, "PATH").is_some()
+}
+
+/// Whether a count was asked for, and a list, an outcome to pick or a log's path was given, or it is to be told as JSON.
+pub(crate) fn is_count_misplaced(given: &ArgMatches<'_>) -> bool
+    ensures { result ≡ is_count_misplaced (rows_of (found_of given.now)) }
+{
+    is_flagged(given, "count")
+        && (given_in(given, "FILE2").is_some()
+            || given_in(given, "K").is_some()
+            || given_in(given, "PATH").is_some()
+            || is_json(given))
 }
 
 /// Whether the command of this name is `page`, and it is unclear of which run.

@@ -20,6 +20,9 @@ const LIST_LINE: &str = "x10clock: --expect goes without --log and --pick\n";
 /// The line of words that have an outcome to pick, and no log.
 const PICK_LINE: &str = "x10clock: --pick goes with --log\n";
 
+/// The line of words that have a count, and a list of outcomes, an outcome to pick, a log, or `--json`.
+const COUNT_LINE: &str = "x10clock: --count goes without --expect, --json, --log and --pick\n";
+
 /// The line of words that have a page of a log's run and of an outcome's, or of neither.
 const PAGE_LINE: &str =
     "x10clock: page takes either LOG or --outcome, and --limit goes with --outcome\n";
@@ -45,6 +48,8 @@ pub enum Misfit {
     MisplacedList,
     /// `--pick` stands without `--log`.
     PickAlone,
+    /// `--count` stands beside `--expect`, `--json`, `--log` or `--pick`.
+    MisplacedCount,
     /// `page` stands beside both LOG and `--outcome`, or neither; or `--limit` beside LOG.
     UnclearPage,
     /// `--json` stands beside `--order ask` or `--runs`.
@@ -67,6 +72,7 @@ impl Misfit {
             Misfit::ProcessorsAlone => PROCESSORS_LINE,
             Misfit::MisplacedList => LIST_LINE,
             Misfit::PickAlone => PICK_LINE,
+            Misfit::MisplacedCount => COUNT_LINE,
             Misfit::UnclearPage => PAGE_LINE,
             Misfit::MisplacedJson => JSON_LINE,
             Misfit::MisplacedRounds => ROUNDS_LINE,

@@ -4,16 +4,18 @@ ghost use Rattle.std.specs.Prelude.{◌≡◌, [], false, Some, None, IfNone, If
 ghost use Rattle.clap.specs.Words.{found_of, kind_of, rows_of, subcommand_rows_of};
 ghost use Rattle.xk_cli.specs.declared.misfit.Misfit.{Misfit as AMisfit};
 ghost use Rattle.xk_cli.specs.CommandLine.{FitsKind, IsRefused, WithOrders, asked_by, asked_in, asked_of, check_in, command_by};
-ghost use Rattle.xk_cli.specs.CommandLine.{command_by_log, faults_in, found_task, is_misfit, job_of, lanes_by, misfits_by, misfits_in};
-ghost use Rattle.xk_cli.specs.CommandLine.{outcome_page_of, outcomes_by, outcomes_of, page_by, run_by, run_in, task_by, texts};
-ghost use Rattle.xk_cli.specs.CommandLine.{told_as, why_on};
+ghost use Rattle.xk_cli.specs.CommandLine.{command_by_log, faults_in, found_task, is_misfit, job_of, lanes_by};
+ghost use Rattle.xk_cli.specs.CommandLine.{listed_of, misfits_by, misfits_in};
+ghost use Rattle.xk_cli.specs.CommandLine.{outcome_page_of, outcomes_by, outcomes_of, page_by, races_in, run_by, run_in, task_by};
+ghost use Rattle.xk_cli.specs.CommandLine.{texts, told_as, why_on};
 ghost use Rattle.xk_jobs.specs.Tasks.{Events, Run, asked_value, task_value, way_value};
 
 use crate::commands::line;
 use crate::given::{
-    are_processors_alone, are_rounds_misplaced, are_runs_misplaced, arguments_in, count_in, drive_in, form_in, given_in,
-    is_both, is_flagged, is_json, is_json_misplaced, is_list_misplaced, is_order, is_page_unclear,
-    is_pick_alone, is_run_unclear, is_seed_alone, seed_in,
+    are_processors_alone, are_rounds_misplaced, are_runs_misplaced, arguments_in, count_in,
+    drive_in, form_in, given_in, is_both, is_count_misplaced, is_flagged, is_json,
+    is_json_misplaced, is_list_misplaced, is_order, is_page_unclear, is_pick_alone, is_run_unclear,
+    is_seed_alone, seed_in,
 };
 use crate::misfit::Misfit;
 use crate::words_fault::WordsFault;
@@ -205,11 +207,20 @@ fn command_by<'a>(name: &str, given: &ArgMatches<'a>) -> Option<Command<'a>>
         "listing" => Some(Command::Listing),
         "outcomes" => outcomes_by(given),
         "page" => page_by(given),
-        "races" => Some(Command::Races {
-            log: given_in(given, "LOG"),
-        }),
+        "races" => Some(races_in(given)),
         _ => command_by_log(name, given),
     }
+}
+
+/// The command `races` with what was given to it, told as JSON or not.
+fn races_in<'a>(given: &ArgMatches<'a>) -> Command<'a>
+    ensures { task_value result ≡ races_in (rows_of (found_of given.now)) }
+{
+    let log = given_in(given, "LOG");
+    if is_json(given) {
+        return Command::Json(Values::Races { log });
+    }
+    Command::Races { log }
 }
 
 /// The command `check` with what was given to it: as a JSON value it is what `explain` tells.
@@ -310,17 +321,17 @@ fn outcome_page_of<'a>(given: &ArgMatches<'a>) -> Option<Command<'a>>
     })
 }
 
-/// The command `outcomes` with what was given to it: outcomes are held against a list, or printed. None where a list
-/// was given, and an outcome to pick or a log's path; or an outcome to pick, and no log's path.
+/// The command `outcomes` with what was given to it: outcomes are held against a list, counted, or printed. None where a
+/// list was given, and an outcome to pick or a log's path; or an outcome to pick, and no log's path; or a count was asked for, and one of these, or JSON.
 fn outcomes_by<'a>(given: &ArgMatches<'a>) -> Option<Command<'a>>
     ensures { option_map task_value result ≡ outcomes_by (rows_of (found_of given.now)) }
 {
-    if is_list_misplaced(given) || is_pick_alone(given) {
+    if is_list_misplaced(given) || is_pick_alone(given) || is_count_misplaced(given) {
         return None;
     }
     match given_in(given, "FILE2") {
         Some(list) => Some(expected_in(list, given)),
-        None => Some(found_in(given)),
+        None => Some(all_in(given)),
     }
 }
 
@@ -337,9 +348,22 @@ fn expected_in<'a>(list: &'a str, given: &ArgMatches<'a>) -> Command<'a>
     Command::Expected { list, limit, sets }
 }
 
+/// Outcomes that are counted or printed.
+fn all_in<'a>(given: &ArgMatches<'a>) -> Command<'a>
+    ensures { task_value result ≡ outcomes_of None (rows_of (found_of given.now)) }
+{
+    if is_flagged(given, "count") {
+        return Command::Count {
+            limit: count_in(given, "LIMIT"),
+            sets: is_flagged(given, "sets"),
+        };
+    }
+    found_in(given)
+}
+
 /// Outcomes that are printed, maybe with a log, told as JSON or not.
 fn found_in<'a>(given: &ArgMatches<'a>) -> Command<'a>
-    ensures { task_value result ≡ outcomes_of None (rows_of (found_of given.now)) }
+    ensures { task_value result ≡ listed_of (rows_of (found_of given.now)) }
 {
     let limit = count_in(given, "LIMIT");
     let pick = count_in(given, "K");
@@ -395,6 +419,9 @@ fn misfit(name: &str, given: &ArgMatches<'_>) -> Option<Misfit>
     }
     if is_pick_alone(given) {
         return Some(Misfit::PickAlone);
+    }
+    if is_count_misplaced(given) {
+        return Some(Misfit::MisplacedCount);
     }
     if is_page_unclear(name, given) {
         return Some(Misfit::UnclearPage);

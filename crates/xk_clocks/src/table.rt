@@ -1,6 +1,6 @@
 //! All clocks.
 
-ghost use Rattle.std.specs.Prelude.{◌≡◌, ◌+◌, ◌<◌, ◌≤◌, ◌^◌, false, [], ◌∷◌, ◌++◌, length, IfOk};
+ghost use Rattle.std.specs.Prelude.{◌≡◌, ◌+◌, ◌<◌, ◌≤◌, ◌^◌, false, [], ◌∷◌, ◌++◌, length, IfOk, OnErr};
 ghost use Rattle.xk_clocks.specs.Table.{new_count, is_ready_count, count_settled, count_registered, count_resumed, count_dropped, one_if, count_at, changed_at};
 
 use crate::count::Count;
@@ -16,7 +16,7 @@ use xk_types::ClockId;
 /// so within the call after which that holds, and then all who are registered on it are ahead: pending again. So the pass of an
 /// activity, from ahead to open, is no call.
 ///
-/// Room for clocks is taken when the table is opened. Nothing else takes memory.
+/// Room for clocks is taken when the table is opened or copied. Nothing else takes memory.
 #[derive(Drop)]
 pub struct ClockTable {
     room: u32,
@@ -43,6 +43,21 @@ impl ClockTable {
         Ok(ClockTable {
             room: clocks,
             clocks: Vec::with_capacity(alloc, clocks as usize)?,
+        })
+    }
+
+    /// The same clocks, with as much room, from the memory that these are in.
+    pub fn copy(&self) -> Result<ClockTable, AllocError>
+        ensures same { IfOk result (λ table. table ≡ self.now) }
+        ensures only_where_it_grows { OnErr result (0 < self.now.room) }
+    {
+        let mut clocks = Vec::with_capacity(*self.clocks.allocator(), self.room as usize)?;
+        for clock in &self.clocks {
+            clocks.push_reserved(*clock);
+        }
+        Ok(ClockTable {
+            room: self.room,
+            clocks,
         })
     }
 

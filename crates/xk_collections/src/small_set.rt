@@ -1,6 +1,6 @@
 //! A set of which mostly few numbers are members at once.
 
-ghost use Rattle.std.specs.Prelude.{◌≡◌, ◌+◌, ◌<◌, ◌≤◌, ◌==◌, [], ◌++◌, length, true, false, IfOk};
+ghost use Rattle.std.specs.Prelude.{◌≡◌, ◌+◌, ◌<◌, ◌≤◌, ◌==◌, [], ◌++◌, length, true, false, IfOk, OnErr};
 ghost use Rattle.std.specs.Vec.{vec_capacity, vec_len};
 ghost use Rattle.xk_collections.specs.NumberSets.{AreBelow, IsRising, with_member};
 
@@ -8,7 +8,7 @@ use std::alloc::{AllocError, Global};
 use std::marker::Model;
 
 /// A set of numbers below its room, kept as the rising list of its members. What it takes to put one in, or to take one out, grows with those
-/// above it; to put one in above all others, to take all out, or to tell whether there are any, is one step. No call but `with_room` takes memory.
+/// above it; to put one in above all others, to take all out, or to tell whether there are any, is one step. No call but `with_room` and `copy` takes memory.
 #[derive(Drop)]
 pub struct FewNumbers {
     numbers: Vec<u32>,
@@ -34,6 +34,16 @@ impl FewNumbers {
         Ok(FewNumbers {
             numbers: Vec::with_capacity(alloc, room as usize)?,
         })
+    }
+
+    /// The same set, with as much room, from the memory that this one is in.
+    pub fn copy(&self) -> Result<FewNumbers, AllocError>
+        ensures same { IfOk result (λ s. s ≡ self.now) }
+        ensures only_where_it_grows { OnErr result (0 < self.now.room) }
+    {
+        let mut numbers = Vec::with_capacity(*self.numbers.allocator(), self.numbers.capacity())?;
+        append(&mut numbers, &self.numbers);
+        Ok(FewNumbers { numbers })
     }
 
     /// Puts a number in. One above all others goes behind them at once.

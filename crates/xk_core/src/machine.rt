@@ -75,6 +75,16 @@ impl<'m> Core<'m> {
         Ok(Core { state, finishes })
     }
 
+    /// The same program in the same world, from the memory that this one is in. What the one does from now on changes nothing of the
+    /// other. Err where memory was refused.
+    pub fn copy(&self) -> Result<Core<'m>, AllocError>
+        ensures same { IfOk result (λ c. c ≡ self.now) }
+    {
+        let state = self.state.copy()?;
+        let finishes = self.finishes.copy()?;
+        Ok(Core { state, finishes })
+    }
+
     /// The module that it runs, as `open` was given it.
     pub fn module(&self) -> &'m Verified
         ensures same { result.now ≡ self.now.module_run }
@@ -296,7 +306,7 @@ impl<'m> Core<'m> {
     }
 
     /// Whether the activity runs, waits at an `advance`, or is over.
-    pub(crate) fn status(&self, act: Act) -> Status
+    pub fn status(&self, act: Act) -> Status
         requires { act < length self.now.world.activities }
         ensures { result ≡ (act_at self.now.world.activities act).status }
     {
@@ -304,7 +314,7 @@ impl<'m> Core<'m> {
     }
 
     /// Whether the activity has as many finishes open in the other core, and the same governs it there.
-    pub(crate) fn has_same_finishes(&self, other: &Core<'_>, act: Act) -> bool
+    pub fn has_same_finishes(&self, other: &Core<'_>, act: Act) -> bool
         requires here { act < length self.now.world.activities }
         requires there { act < length other.now.world.activities }
         ensures { Decides result (AreUnderSameFinishes (act_at self.now.world.activities act)

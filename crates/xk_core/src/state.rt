@@ -130,6 +130,21 @@ impl<'m> State<'m> {
         })
     }
 
+    /// The same state, with as much room, from the memory that this one is in.
+    pub fn copy(&self) -> Result<State<'m>, AllocError>
+        ensures same { IfOk result (λ s. s ≡ self.now) }
+    {
+        let alloc = self.activities.allocator();
+        Ok(State {
+            activities: self.activities.copy()?,
+            standings: self.standings.copy()?,
+            cells: self.cells.to_vec(alloc)?,
+            steps: self.steps,
+            arguments: self.arguments.to_vec(alloc)?,
+            handed: Vec::new(alloc),
+        })
+    }
+
     /// The activities, but for their finishes.
     #[inline(always)]
     pub fn activities(&self) -> &Activities<'m>

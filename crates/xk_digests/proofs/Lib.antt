@@ -1,6 +1,4 @@
 pub mod DigestLemmas
 mod DigestListLemmas
-mod NestingLemmas
 pub mod LikenessLemmas
 mod FrameLemmas
-mod StatusLemmas

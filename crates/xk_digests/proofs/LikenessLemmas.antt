@@ -15,7 +15,6 @@ use Rattle.xk_liveness.specs.Liveness.{AreAlikeWhereLive, SlotTable, callers_lef
 use Rattle.xk_liveness.specs.Liveness.{present, waiting}
 use Rattle.xk_liveness.proofs.MaskLemmas.{agree_get, nil_cons, same_first, same_rest}
 use Rattle.xk_digests.specs.Likeness.{AreSameFrom, HasSameLeft}
-use Rattle.xk_digests.specs.Nestings.{nesting_of}
 
 -- ---- slots under masks
 

@@ -1,4 +1,3 @@
 pub mod Digest
 pub mod Digests
-pub mod Nestings
 pub mod Likeness

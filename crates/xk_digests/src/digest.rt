@@ -7,7 +7,6 @@ ghost use Rattle.xk_liveness.specs.Liveness.{live_activity, masked};
 ghost use Rattle.xk_live_slots.specs.LiveSlots.{live_of};
 ghost use Rattle.xk_digests.specs.Digest.{mixed, with_activity, with_number, with_numbers, with_values, word_of, world_digest};
 
-use crate::status::status_of;
 use xk_activity::Frames;
 use xk_core::Core;
 use xk_live_slots::LiveSlots;
@@ -104,7 +103,7 @@ fn with_activity(live: &LiveSlots<'_>, core: &Core<'_>, act: Act, digest: u64) -
     let _activities = core.activities();
     let frames = core.frames(act);
     let place = frames.place() as usize;
-    match status_of(core, act) {
+    match core.status(act) {
         Status::Running => with_frame(live, place, frames, digest),
         Status::Arrived => with_frame(live, place + 1, frames, digest),
         Status::Ended => mixed(mixed(digest, 0), 0),

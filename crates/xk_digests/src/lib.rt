@@ -6,11 +6,8 @@ mod digest;
 mod digests;
 mod frames;
 mod likeness;
-mod nestings;
 mod status;
-mod traced_core;
 
 pub use digest::digest_of;
 pub use digests::Digests;
 pub use likeness::are_alike;
-pub use traced_core::TracedCore;

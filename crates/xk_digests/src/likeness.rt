@@ -10,8 +10,7 @@ ghost use Rattle.xk_liveness.specs.Liveness.{AreAlikeWhereLive, live_activity};
 ghost use Rattle.xk_live_slots.specs.LiveSlots.{live_of};
 
 use crate::frames::has_same_left;
-use crate::status::{is_same_standing, is_same_status, status_of};
-use crate::traced_core::TracedCore;
+use crate::status::{is_same_standing, is_same_status};
 use std::alloc::AllocError;
 use xk_core::Core;
 use xk_live_slots::LiveSlots;
@@ -27,40 +26,39 @@ fn are_same_numbers(numbers: &[i64], others: &[i64]) -> bool
 /// Whether what of the activity may still count is the same in both.
 fn is_same_activity(
     live: &LiveSlots<'_>,
-    traced: &TracedCore<'_>,
-    other: &TracedCore<'_>,
+    core: &Core<'_>,
+    other: &Core<'_>,
     act: Act,
 ) -> Result<bool, AllocError>
-    requires here { act < length traced.now.world.activities }
+    requires here { act < length core.now.world.activities }
     requires there { act < length other.now.world.activities }
     ensures { IfOk result (λ same. Decides same
-        (live_activity (live_of live.now) (act_at traced.now.world.activities act)
+        (live_activity (live_of live.now) (act_at core.now.world.activities act)
         ≡ live_activity (live_of live.now) (act_at other.now.world.activities act))) }
 {
-    let core = traced.core();
-    let status = status_of(core, act);
-    if !is_same_status(status, status_of(other.core(), act)) {
+    let status = core.status(act);
+    if !is_same_status(status, other.status(act)) {
         return Ok(false);
     }
-    if !traced.has_same_nesting(other, act) {
+    if !core.has_same_finishes(other, act) {
         return Ok(false);
     }
-    has_same_left(live, core, other.core(), act, status)
+    has_same_left(live, core, other, act, status)
 }
 
 /// The same of each activity; both have as many.
 fn are_same_activities(
     live: &LiveSlots<'_>,
-    traced: &TracedCore<'_>,
-    other: &TracedCore<'_>,
+    core: &Core<'_>,
+    other: &Core<'_>,
 ) -> Result<bool, AllocError>
-    requires { length other.now.world.activities ≡ length traced.now.world.activities }
+    requires { length other.now.world.activities ≡ length core.now.world.activities }
     ensures { IfOk result (λ same. Decides same
-        (map (live_activity (live_of live.now)) traced.now.world.activities
+        (map (live_activity (live_of live.now)) core.now.world.activities
         ≡ map (live_activity (live_of live.now)) other.now.world.activities)) }
 {
-    for a in 0..traced.activities() {
-        if !is_same_activity(live, traced, other, Act(a))? {
+    for a in 0..core.activities() {
+        if !is_same_activity(live, core, other, Act(a))? {
             return Ok(false);
         }
     }
@@ -120,18 +118,17 @@ fn has_same_numbers(core: &Core<'_>, other: &Core<'_>) -> bool
 /// refused.
 pub fn are_alike(
     live: &LiveSlots<'_>,
-    traced: &TracedCore<'_>,
-    other: &TracedCore<'_>,
+    core: &Core<'_>,
+    other: &Core<'_>,
 ) -> Result<bool, AllocError>
     ensures { IfOk result (λ same. Decides same
-        (AreAlikeWhereLive (live_of live.now) traced.now.world other.now.world)) }
+        (AreAlikeWhereLive (live_of live.now) core.now.world other.now.world)) }
 {
-    let core = traced.core();
-    if !has_same_numbers(core, other.core()) {
+    if !has_same_numbers(core, other) {
         return Ok(false);
     }
-    if !are_same_clocks(core, other.core()) {
+    if !are_same_clocks(core, other) {
         return Ok(false);
     }
-    are_same_activities(live, traced, other)
+    are_same_activities(live, core, other)
 }

@@ -1,26 +1,9 @@
 //! How activities and clocks stand.
 
-ghost use Rattle.std.specs.Prelude.{◌≡◌, ◌<◌, length};
+ghost use Rattle.std.specs.Prelude.{◌≡◌};
 ghost use Rattle.std.specs.Bool.{Decides};
-ghost use Rattle.xk_activity.specs.Activities.{act_at};
 
-use xk_core::Core;
-use xk_types::{Act, Standing, Status};
-
-/// Whether the activity runs, waits at an `advance`, or is over.
-#[tactic(auto, using(crate::proofs::StatusLemmas::ended, crate::proofs::StatusLemmas::arrived, crate::proofs::StatusLemmas::running))]
-pub(crate) fn status_of(core: &Core<'_>, act: Act) -> Status
-    requires { act < length core.now.world.activities }
-    ensures { result ≡ (act_at core.now.world.activities act).status }
-{
-    if !core.is_living(act) {
-        return Status::Ended;
-    }
-    if core.is_waiting(act) {
-        return Status::Arrived;
-    }
-    Status::Running
-}
+use xk_types::{Standing, Status};
 
 /// Whether it is the same status.
 pub(crate) fn is_same_status(status: Status, other: Status) -> bool

@@ -1,6 +1,6 @@
 //! How many of those whom a finish governs haven't ended.
 
-ghost use Rattle.std.specs.Prelude.{◌≡◌, ℕ, ◌+◌, ◌-◌, ◌<◌, ◌^◌, List, [], length, slice_index_or, slice_set, OnOk};
+ghost use Rattle.std.specs.Prelude.{◌≡◌, ℕ, ◌+◌, ◌-◌, ◌<◌, ◌^◌, List, [], length, slice_index_or, slice_set, IfOk, OnOk};
 ghost use Rattle.xk_finishes.specs.Counters.{count_in, HasPlace, CountIs, CountsSame, CountsOneMore};
 
 use crate::finish::Finish;
@@ -30,6 +30,16 @@ impl Depths {
         Depths {
             counts: Vec::new(alloc),
         }
+    }
+
+    /// The same counters, from the memory that these are in.
+    fn copy(&self) -> Result<Depths, AllocError>
+        ensures { IfOk result (λ depths. depths ≡ self.now) }
+    {
+        let alloc = *self.counts.allocator();
+        Ok(Depths {
+            counts: self.counts.to_vec(alloc)?,
+        })
     }
 
     /// The counter at this depth.
@@ -94,6 +104,17 @@ impl Counters {
         Counters {
             owners: Vec::new(alloc),
         }
+    }
+
+    /// The same counters, from the memory that these are in.
+    pub fn copy(&self) -> Result<Counters, AllocError>
+        ensures { IfOk result (λ counters. counters ≡ self.now) }
+    {
+        let mut owners = Vec::with_capacity(*self.owners.allocator(), self.owners.len())?;
+        for depths in &self.owners {
+            owners.push_reserved(depths.copy()?);
+        }
+        Ok(Counters { owners })
     }
 
     /// The counter of the finish that this activity opened at this depth.

@@ -53,6 +53,17 @@ impl FinishTree {
         })
     }
 
+    /// The same tree, from the memory that this one is in.
+    pub fn copy(&self) -> Result<FinishTree, AllocError>
+        ensures { IfOk result (λ tree. tree ≡ self.now) }
+    {
+        let alloc = *self.nodes.allocator();
+        Ok(FinishTree {
+            nodes: self.nodes.to_vec(alloc)?,
+            counters: self.counters.copy()?,
+        })
+    }
+
     /// An activity starts another, which has room for this many finishes open at once, and takes the next number. It is
     /// governed by the innermost finish that its starter has open, else by the one that governs the starter. Where memory is
     /// refused nothing changes.

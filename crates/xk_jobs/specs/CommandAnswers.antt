@@ -13,6 +13,7 @@ explanation _ = None
 -- whether values have them
 abbrev pub have_places : Values → Bool
 have_places (values.Events log) = true
+have_places (values.Races path) = true
 have_places _ = false
 
 -- whether what is printed has the lines of a source text

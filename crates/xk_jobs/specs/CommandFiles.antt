@@ -8,6 +8,7 @@ use Rattle.xk_jobs.specs.declared.job.Values.TheVariants as values
 -- the same of what is told as JSON: what is read
 abbrev pub values_read : Values → Option (List ℕ)
 values_read (values.Events log) = Some log.now
+values_read (values.Races log) = option_map (λ path. path.now) log
 values_read (values.Expected list limit sets) = Some list.now
 values_read _ = None
 

@@ -29,7 +29,7 @@ way_value (drive.Workers w) = By w.count
 -- critical path; a page has the same steps. That of an outcome has its number, how many there are at most, and the same steps. How things stand is told by the
 -- log's path, and after a step, where that was given; what a step rests on has both; races have the log's path, where it was given; the
 -- others on a log have its path. Outcomes have how many there are at most, which is picked, and the path of its log; numbers of them
--- may have no order. Where they are held against a list they have its path, how many there are at most, and whether numbers of them
+-- may have no order. Where they are counted they have how many there are at most, and whether numbers of them have no order. Where they are held against a list they have its path, how many there are at most, and whether numbers of them
 -- have no order. Some of these may be told as JSON.
 pub data Task : Type 0 where
   Check : Task
@@ -51,6 +51,7 @@ pub data Task : Type 0 where
   Why : List ℕ → ℕ → Task
   Races : Option (List ℕ) → Task
   Outcomes : Option ℕ → Option ℕ → Option (List ℕ) → Bool → Task
+  Count : Option ℕ → Bool → Task
   Expected : List ℕ → Option ℕ → Bool → Task
   Json : Task → Task
 
@@ -58,6 +59,7 @@ pub data Task : Type 0 where
 abbrev pub told_value : Values → Task
 told_value (values.Run given log) = Run (option_map way_value given) (option_map (λ s. s.now) log)
 told_value (values.Events log) = Events log.now
+told_value (values.Races log) = Races (option_map (λ s. s.now) log)
 told_value (values.Outcomes limit pick log sets) = Outcomes limit pick (option_map (λ s. s.now) log) sets
 told_value (values.Expected list limit sets) = Expected list.now limit sets
 
@@ -80,6 +82,7 @@ task_value (command.Span log) = Span log.now
 task_value (command.Why log step) = Why log.now step
 task_value (command.Races log) = Races (option_map (λ s. s.now) log)
 task_value (command.Outcomes limit pick log sets) = Outcomes limit pick (option_map (λ s. s.now) log) sets
+task_value (command.Count limit sets) = Count limit sets
 task_value (command.Expected list limit sets) = Expected list.now limit sets
 task_value (command.Json v) = Json (told_value v)
 

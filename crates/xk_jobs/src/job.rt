@@ -119,6 +119,13 @@ pub enum Command<'a> {
         /// `--sets`: outcomes that differ in the order of their numbers alone are one.
         sets: bool,
     },
+    /// `outcomes --count`: print how many outcomes FILE has.
+    Count {
+        /// `--limit`, as for `outcomes`.
+        limit: Option<u64>,
+        /// `--sets`, as for `outcomes`.
+        sets: bool,
+    },
     /// `outcomes --expect`: say whether all that FILE can print is in a list.
     Expected {
         /// The list's path.
@@ -143,6 +150,10 @@ pub enum Values<'a> {
     /// `events --json`: what others see of the steps of the run of FILE that a log has, a value each.
     Events {
         log: &'a str,
+    },
+    /// `races --json`: which steps of a run of FILE race with one another, as one value.
+    Races {
+        log: Option<&'a str>,
     },
     /// `outcomes --json`: all that FILE can print, as one value.
     Outcomes {
@@ -169,6 +180,7 @@ impl<'a> Values<'a> {
     {
         match *self {
             Values::Events { log } => Some(log),
+            Values::Races { log } => log,
             Values::Expected { list, .. } => Some(list),
             Values::Run { .. } | Values::Outcomes { .. } => None,
         }
@@ -180,7 +192,7 @@ impl<'a> Values<'a> {
     {
         match *self {
             Values::Run { log, .. } | Values::Outcomes { log, .. } => log,
-            Values::Events { .. } | Values::Expected { .. } => None,
+            Values::Events { .. } | Values::Races { .. } | Values::Expected { .. } => None,
         }
     }
 
@@ -189,7 +201,7 @@ impl<'a> Values<'a> {
         ensures { result ≡ have_places self.now }
     {
         match *self {
-            Values::Events { .. } => true,
+            Values::Events { .. } | Values::Races { .. } => true,
             Values::Run { .. } | Values::Outcomes { .. } | Values::Expected { .. } => false,
         }
     }
@@ -223,7 +235,8 @@ impl<'a> Command<'a> {
             | Command::Run { .. }
             | Command::Tally { .. }
             | Command::OutcomePage { .. }
-            | Command::Outcomes { .. } => None,
+            | Command::Outcomes { .. }
+            | Command::Count { .. } => None,
         }
     }
 
@@ -250,6 +263,7 @@ impl<'a> Command<'a> {
             | Command::Span { .. }
             | Command::Why { .. }
             | Command::Races { .. }
+            | Command::Count { .. }
             | Command::Expected { .. } => None,
         }
     }
@@ -277,6 +291,7 @@ impl<'a> Command<'a> {
             | Command::Why { .. }
             | Command::Races { .. }
             | Command::Outcomes { .. }
+            | Command::Count { .. }
             | Command::Expected { .. }
             | Command::Json(_) => None,
         }
@@ -306,6 +321,7 @@ impl<'a> Command<'a> {
             | Command::Replay { .. }
             | Command::Chart { .. }
             | Command::Outcomes { .. }
+            | Command::Count { .. }
             | Command::Expected { .. } => false,
         }
     }

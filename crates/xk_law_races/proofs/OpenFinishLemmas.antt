@@ -213,7 +213,7 @@ end_closed m limits ok w u a e act next reached takes found at over =
 -- ---- what governs who lives
 
 -- Who hasn't ended is governed by the root, or by a finish that is open and has the number that the activity has for it.
-abbrev pub AreIn : Scopes → World → Type 0
+abbrev AreIn : Scopes → World → Type 0
 AreIn q w = (y a d : ℕ) (act : Activity) → slice_get w.activities y ≡ Some act → is_ended act.status ≡ false → act.governed ≡ finish a d
     → (0 < d) × (d ≤ opened_in w.activities a) × (number (nest q w.activities) a (opened_in w.activities a - d) ≡ base (nest q w.activities) y)
 

@@ -48,7 +48,7 @@ get_right (x ∷ xs) ys k = let e : suc (length xs) + k ≡ suc (length xs + k) 
     ∙ get_right xs ys k
 
 -- one list, cut at an element in two ways
-data Cut (xs us : List ℕ) (a b : ℕ) : Type 0 where
+pub data Cut (xs us : List ℕ) (a b : ℕ) : Type 0 where
   First : (zs : List ℕ) → us ≡ xs ++ a ∷ zs → Cut xs us a b
   Here : xs ≡ us → a ≡ b → Cut xs us a b
   Second : (zs : List ℕ) → xs ≡ us ++ b ∷ zs → Cut xs us a b
@@ -59,7 +59,7 @@ head_same a b xs ys h = cc
 tail_same : (a b : ℕ) (xs ys : List ℕ) → a ∷ xs ≡ b ∷ ys → xs ≡ ys
 tail_same a b xs ys h = cc
 
-cut_of : (xs ys us vs : List ℕ) (a b : ℕ) → xs ++ a ∷ ys ≡ us ++ b ∷ vs → Cut xs us a b
+pub cut_of : (xs ys us vs : List ℕ) (a b : ℕ) → xs ++ a ∷ ys ≡ us ++ b ∷ vs → Cut xs us a b
 cut_of [] ys [] vs a b h = Here refl (head_same a b ys vs h)
 cut_of [] ys (u ∷ us) vs a b h = First us (ap (λ c. c ∷ us) (sym (head_same a u ys (us ++ b ∷ vs) h)))
 cut_of (x ∷ xs) ys [] vs a b h = Second xs (ap (λ c. c ∷ xs) (head_same x b (xs ++ a ∷ ys) vs h))

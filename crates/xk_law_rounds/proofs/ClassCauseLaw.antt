@@ -23,13 +23,13 @@ use Rattle.xk_law_traces.specs.Moments.{is_start}
 use Rattle.xk_law_traces.specs.OneRun.{GoesAsWell, IsWholeRun}
 use Rattle.xk_law_traces.proofs.ClassLemmas.{class_as_well, deeds, same_deeds}
 use Rattle.xk_law_traces.proofs.EdgeLaw.{WasTaken, at_turn, by_first, run_behind, turns_on, turns_same, was_taken}
-use Rattle.xk_law_traces.proofs.FinishEdgeLaw.{under_taken}
+use Rattle.xk_law_traces.proofs.FinishEdgeLaw.{governed_stays, under_taken}
 use Rattle.xk_law_traces.proofs.InstructionEventLemmas.{arrived_free, passes_arrived}
 use Rattle.xk_law_traces.proofs.StageLemmas.{registered_stage, stage_at, unsignalled_stage}
 use Rattle.xk_law_traces.proofs.SwapLemmas.{Deed, State, deed_named, deed_of, get_map, stand_named, stand_of}
 use Rattle.xk_law_rounds.proofs.CompleteLaw.{inside_before}
 use Rattle.xk_law_rounds.proofs.HoldLemmas.{stage_tells}
-use Rattle.xk_law_rounds.proofs.IdleLemmas.{governed_stays, owned_in, under_over}
+use Rattle.xk_law_rounds.proofs.IdleLemmas.{owned_in, under_over}
 use Rattle.xk_law_rounds.proofs.RoundLaw.{same_turns}
 
 -- a step that is taken by some steps is one of them
@@ -306,8 +306,8 @@ module _ (m : ModuleValue) (args : List ℤ) (limits : IsWithinLimits m) (ok : I
     same_governed : (n : ℕ) (i j : Activity) → slice_get f.here.activities n ≡ Some i → slice_get v.here.activities (named n) ≡ Some j
         → j.governed ≡ finish_named xs i.governed
     same_governed n i j hi hj =
-        let a = governed_stays m (y.0 ∷ f.after) f.here z end n i hi in
-        let b = governed_stays m (named y.0 ∷ v.back) v.here g.last rest (named n) j hj in
+        let a = governed_stays m (y.0 ∷ f.after) f.here z n i end hi in
+        let b = governed_stays m (named y.0 ∷ v.back) v.here g.last (named n) j rest hj in
         let both : b.0.governed ≡ finish_named xs a.0.governed =
         same_Some b.0.governed (finish_named xs a.0.governed)
         (sym (ap (option_map (λ (act : Activity). act.governed)) b.1) ∙ governed_same xs z g.last n g.alike

@@ -31,11 +31,12 @@ use Rattle.xk_law_commute.proofs.ChangeSquareLemmas.{found_of, same_step}
 use Rattle.xk_law_commute.proofs.StartSquareLemmas.{alive_of}
 use Rattle.xk_law_traces.specs.Edges.{StepName, turns_of, IsTaken, IsTurn, IsCause, phase_of, standing_on}
 use Rattle.xk_law_traces.proofs.EdgeLaw.{WasTaken, run_behind, turns_on, turns_same, was_taken}
+use Rattle.xk_law_traces.proofs.FinishEdgeLaw.{governed_stays}
 use Rattle.xk_law_traces.proofs.InstructionEventLemmas.{arrived_free, stepped_by}
 use Rattle.xk_law_traces.proofs.StageLemmas.{registered_stage, stage_at, unsignalled_stage}
 use Rattle.xk_law_traces.proofs.StepEventLemmas.{run_wider}
 use Rattle.xk_law_rounds.proofs.HoldLemmas.{stage_tells}
-use Rattle.xk_law_rounds.proofs.IdleLemmas.{IsStartedOn, IsStill, governed_stays, idle, owned_in, started_on, under_over}
+use Rattle.xk_law_rounds.proofs.IdleLemmas.{IsStartedOn, IsStill, idle, owned_in, started_on, under_over}
 
 -- who takes a step is there before and behind it
 pub inside_before : (m : ModuleValue) (list : List ℕ) (w v : World) (a : ℕ) → run m list w ≡ Through v → length v.activities ≤ a
@@ -314,12 +315,12 @@ module _ (m : ModuleValue) (args : List ℤ) (limits : IsWithinLimits m) (ok : I
 
       -- but who was waited for is still under the finish
       child : (x : Activity) × (slice_get next.here.activities a ≡ Some x) × (x.governed ≡ waited_for.act.governed)
-      child = governed_stays m next.front v next.here next.leads a waited_for.act waited_for.found
+      child = governed_stays m next.front v next.here a waited_for.act next.leads waited_for.found
 
       under_then : is_under next.here.activities f a ≡ true
       under_then = under_over v.activities next.here.activities (owned_in m limits ok v reached) (owned_in m limits ok next.here there)
           (λ n. n) (λ g. g) (λ g o h. h)
-          (λ n x z hx hz. (let r = governed_stays m next.front v next.here next.leads n x hx in
+          (λ n x z hx hz. (let r = governed_stays m next.front v next.here n x next.leads hx in
           ap (λ (u : Activity). u.governed) (same_Some z r.0 (sym hz ∙ r.1)) ∙ r.2))
           f (suc a) a (omega arith) (slice_get_within next.here.activities a child.0 child.1) waited_for.act waited_for.found
           waited_for.under

@@ -1,29 +1,28 @@
--- Along a run: who takes no step stays as it is, and stands so on each clock; what governs an activity stays, and so does who is under a
--- finish; and who comes to be there was started.
+-- Along a run: who takes no step stays as it is, and stands so on each clock; who is under a finish stays so; and who comes to be there was
+-- started.
 use Rattle.std.proofs.Common.{◌≡◌, ℕ, zero, suc, ◌+◌, ◌<◌, ◌≤◌, ◌==◌, ◌⊎◌, inl, inr, Bool, true, false, cond, List, [], ◌∷◌, ◌++◌}
-use Rattle.std.proofs.Common.{length, set}
-use Rattle.std.proofs.Common.{Some, refl, sym, ap, ◌∙◌, subst, arith}
+use Rattle.std.proofs.Common.{length}
+use Rattle.std.proofs.Common.{Some, refl, sym, ap, ◌∙◌, arith}
 use Rattle.std.specs.Prelude.{slice_get}
 use Rattle.std.proofs.lemmas.Bool.{eqb-false, cases_lt}
-use Rattle.std.proofs.lemmas.Option.{same_Some, slice_get_within}
+use Rattle.std.proofs.lemmas.Option.{slice_get_within}
 use Rattle.xk_types.specs.declared.world.Event.{Event}
 use Rattle.xk_types.specs.declared.world.Event.TheVariants as event
 use Rattle.xk_types.specs.Acceptance.{IsAccepted}
 use Rattle.xk_types.specs.Code.{ModuleValue, IsWithinLimits}
 use Rattle.xk_types.specs.World.{Finish, Activity, World}
-use Rattle.xk_types.specs.Step.{Outcome, Blocked, Wrong, Stepped, child, onward, left, ended, arrived, is_under, step}
+use Rattle.xk_types.specs.Step.{Stepped, is_under, step}
 use Rattle.xk_types.specs.Schedule.{Through, run, IsReached}
-use Rattle.xk_types.proofs.ListLemmas.{get-set_same, get-set_other, get-append_left, get_inside}
+use Rattle.xk_types.proofs.ListLemmas.{get_inside}
 use Rattle.xk_law_schedules.proofs.ReachabilityLemmas.{same_through, first_step, reached_step, reached_scoped}
-use Rattle.xk_law_schedules.proofs.StepFormLemmas.{step_kind}
 use Rattle.xk_law_schedules.proofs.ScopeLemmas.FinishOwnerLemmas.{AreOwned, under_governed, under_owner, under_cases}
-use Rattle.xk_law_commute.proofs.AwaitIndependenceLemmas.{same_or_not}
 use Rattle.xk_law_names.proofs.ActivityNameOrderLaw.{run_first}
 use Rattle.xk_law_traces.specs.Moments.{is_start}
 use Rattle.xk_law_traces.specs.Edges.{turns_of}
 use Rattle.xk_law_traces.proofs.StageLemmas.{stage_at, moves_on}
 use Rattle.xk_law_traces.proofs.StepEventLemmas.{grown, others_stay, start_is}
 use Rattle.xk_law_traces.proofs.EdgeLaw.{turns_same, turns_other}
+use Rattle.xk_law_traces.proofs.FinishEdgeLaw.{idle_stays}
 
 -- ---- who takes no step
 
@@ -45,7 +44,7 @@ pub idle : (m : ModuleValue) → IsWithinLimits m → IsAccepted m → (list : L
 idle m limits ok [] v h a act reached at none legal =
     let same = same_through v h legal in
     record {
-      there = ap (λ (z : World). slice_get z.activities a) (sym same) ∙ at;
+      there = idle_stays m [] v h a act none legal at;
       stages = λ k. ap (λ (z : World). stage_at z k a) (sym same);
     }
 idle m limits ok (d ∷ list) v h a act reached at none legal =
@@ -54,57 +53,9 @@ idle m limits ok (d ∷ list) v h a act reached at none legal =
     let r = idle m limits ok list x.0 h a act (reached_step m v x.0 d x.1 reached x.2)
     (others_stay m v x.0 d a x.1 act x.2 i.0 at) i.1 x.3 in
     record {
-      there = r.there;
+      there = idle_stays m (d ∷ list) v h a act none legal at;
       stages = λ k. r.stages k ∙ (moves_on m limits ok v x.0 d x.1 reached x.2).others k a (slice_get_within v.activities a act at) i.0;
     }
-
--- ---- what governs an activity
-
--- the activity is there, and governed by this finish
-abbrev IsThere : World → ℕ → Finish → Type 0
-IsThere w a f = (y : Activity) × (slice_get w.activities a ≡ Some y) × (y.governed ≡ f)
-
--- it isn't a step, or each activity is still there and governed by the same finish
-abbrev KeepsGoverned : World → Outcome → Type 0
-KeepsGoverned w Blocked = Unit {0}
-KeepsGoverned w (Wrong c) = Unit {0}
-KeepsGoverned w (Stepped u e) = (b : ℕ) (x : Activity) → slice_get w.activities b ≡ Some x → IsThere u b x.governed
-
-step_governed : (m : ModuleValue) (w : World) (a : ℕ) → KeepsGoverned w (step m w a)
-step_governed m w a = step_kind (KeepsGoverned w) m w a tt (λ c. tt) (λ act found lives. record {
-  closed = λ n some nobody runs. kept act found (left act n) refl;
-  over = λ here none. kept act found (ended act) refl;
-  arrives = kept act found (arrived act) refl;
-  done = λ next change e goes quiet rests. kept act found next goes.governed;
-  made = λ next goes. kept act found next goes.governed;
-  stored = λ s n e goes quiet. kept act found (onward act) refl;
-  spawned = λ t args values at goes. λ b x there.
-      (let r = kept act found (onward act) refl b x there in
-      (r.0, get-append_left (set w.activities a (onward act)) (child m a act t values ∷ []) b r.0 r.1, r.2));
-})
-  where
-    kept : (act : Activity) → slice_get w.activities a ≡ Some act → (next : Activity) → next.governed ≡ act.governed
-        → (b : ℕ) (x : Activity) → slice_get w.activities b ≡ Some x
-        → (y : Activity) × (slice_get (set w.activities a next) b ≡ Some y) × (y.governed ≡ x.governed)
-    kept act found next same b x there = by (same_or_not b a)
-      where
-        by : (b ≡ a) ⊎ (b ≡ a → ⊥) → (y : Activity) × (slice_get (set w.activities a next) b ≡ Some y) × (y.governed ≡ x.governed)
-        by (inl is) = (
-          next,
-          ap (slice_get (set w.activities a next)) is ∙ get-set_same w.activities a act next found,
-          same ∙ ap (λ (z : Activity). z.governed) (same_Some act x (sym found ∙ sym (ap (slice_get w.activities) is) ∙ there)),
-        )
-        by (inr differs) = (x, get-set_other w.activities a b next differs ∙ there, refl)
-
-pub governed_stays : (m : ModuleValue) (list : List ℕ) (v h : World) → run m list v ≡ Through h → (b : ℕ) (x : Activity)
-    → slice_get v.activities b ≡ Some x → IsThere h b x.governed
-governed_stays m [] v h legal b x at = (x, ap (λ (z : World). slice_get z.activities b) (sym (same_through v h legal)) ∙ at, refl)
-governed_stays m (d ∷ list) v h legal b x at =
-    let f = first_step v h (step m v d) (run m list) legal in
-    let one : KeepsGoverned v (Stepped f.0 f.1) = subst (KeepsGoverned v) f.2 (step_governed m v d) in
-    let next = one b x at in
-    let r = governed_stays m list f.0 h f.3 b next.0 next.1 in
-    (r.0, r.1, r.2 ∙ next.2)
 
 -- ---- who is under a finish
 

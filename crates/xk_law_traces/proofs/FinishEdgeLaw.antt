@@ -40,7 +40,7 @@ use Rattle.xk_law_traces.proofs.StartEdgeLaw.{child_in, start_deed, turns_all, c
 -- ---- who stays as it is, and what governs it
 
 -- who takes no step stays as it is
-idle_stays : (m : ModuleValue) (p : List ℕ) (v h : World) (a : ℕ) (act : Activity) → turns_of a p ≡ 0 → run m p v ≡ Through h
+pub idle_stays : (m : ModuleValue) (p : List ℕ) (v h : World) (a : ℕ) (act : Activity) → turns_of a p ≡ 0 → run m p v ≡ Through h
     → slice_get v.activities a ≡ Some act
     → slice_get h.activities a ≡ Some act
 idle_stays m [] v h a act idle legal at = ap (λ (z : World). slice_get z.activities a) (sym (same_through v h legal)) ∙ at
@@ -91,7 +91,7 @@ step_governed m w a = step_kind (KeepsGoverned w) m w a tt (λ c. tt) (λ act fo
         )
         by (inr differs) = (x, get-set_other w.activities a b next differs ∙ there, refl)
 
-governed_stays : (m : ModuleValue) (p : List ℕ) (v h : World) (b : ℕ) (x : Activity) → run m p v ≡ Through h
+pub governed_stays : (m : ModuleValue) (p : List ℕ) (v h : World) (b : ℕ) (x : Activity) → run m p v ≡ Through h
     → slice_get v.activities b ≡ Some x → IsThere h b x.governed
 governed_stays m [] v h b x legal at = (x, ap (λ (z : World). slice_get z.activities b) (sym (same_through v h legal)) ∙ at, refl)
 governed_stays m (d ∷ p) v h b x legal at =

@@ -1,19 +1,17 @@
 mod SearchLemmas
 mod PrivateStepLemmas
-mod FoundLemmas
+pub mod FoundLemmas
 mod AlikeLemmas
 mod RestLemmas
+mod CheckpointLemmas
 mod EntriesLemmas
 mod LookupLemmas
-mod FollowLemmas
+pub mod FollowLemmas
 mod ExplorationLemmas
 mod RisingLemmas
-mod ListingLemmas
+pub mod ListingLemmas
 mod ListedLemmas
 mod PathLemmas
 mod NumberingLemmas
-mod PlainRunLemmas
-mod LoneOutcomeLemmas
-mod ExpectedLemmas
-mod HoldingLemmas
-mod TextLemmas
+pub mod PlainRunLemmas
+pub mod LoneOutcomeLemmas

@@ -2,6 +2,8 @@
 
 ghost use Rattle.std.specs.Prelude.{◌≡◌, ◌<◌, ◌≤◌, ◌⊎◌, ◌∷◌, [], true, false, length, max, IfOk};
 ghost use Rattle.xk_types.specs.World.{AreArguments};
+ghost use Rattle.xk_core.specs.Core.{opening_core};
+ghost use Rattle.xk_outcomes.specs.Explored.{IsExplored};
 ghost use Rattle.xk_outcomes.specs.Limits.{HasKept, limit_of};
 ghost use Rattle.xk_outcomes.specs.Listing.{AreAllIn, AreShownIn, HasKeptIn};
 ghost use Rattle.xk_outcomes.specs.LoneOutcomes.{IsOneOfMany, IsOneOfManyAs};
@@ -12,11 +14,11 @@ ghost use Rattle.xk_outcomes.specs.Sets.{AreAllAs, AreDistinctAs, AreSetsAll, Ar
 
 use crate::listed::Listed;
 use crate::listing::{Outcome, Outcomes};
-use crate::lone_outcome::lone_outcome;
+use crate::lone_runs::lone_outcome;
 use crate::order::Order;
 use crate::paths::list_found;
 use crate::plain_runs::note_plain;
-use crate::search::explore;
+use crate::search::{Explored, explore};
 use std::alloc::{AllocError, Global};
 use xk_bounds::Verified;
 use xk_core::Core;
@@ -55,7 +57,7 @@ impl Limit {
     }
 
     /// The limit of a first look: this one, or a small one where that is less.
-    pub(crate) fn early(self) -> Limit
+    pub fn early(self) -> Limit
         ensures { result.outcomes ≤ self.outcomes }
     {
         Limit {
@@ -195,7 +197,8 @@ fn told_in(
             Ok(found)
         }
         None => {
-            let found = searched_in(alloc, order, verified, arguments, limit)?;
+            let explored = explored_in(alloc, order, verified, arguments, limit.entries)?;
+            let found = listed_in(alloc, order, verified, arguments, &explored, limit)?;
             Ok(found)
         }
     }
@@ -215,15 +218,35 @@ fn alone(alloc: Global, lone: Outcome) -> Result<Outcomes, AllocError>
     })
 }
 
-/// The same by the plain runs and a search.
-fn searched_in(
+/// What is found from where the runs of a module begin that is given these arguments, up to this limit. Err where memory was refused.
+pub fn explored_in<'m>(
+    alloc: Global,
+    order: Order,
+    verified: &'m Verified,
+    arguments: &[i64],
+    limit: usize,
+) -> Result<Explored<'m>, AllocError>
+    requires { AreArguments verified.now arguments.now }
+    ensures { IfOk result
+        (IsExplored order (opening_core verified.now arguments.now) limit) }
+{
+    let start = Core::open(alloc, verified, arguments)?;
+    let explored = explore(alloc, order, start, limit)?;
+    Ok(explored)
+}
+
+/// What is printed, told in this order: by the plain runs, and then what was found. Err where memory was refused.
+pub fn listed_in(
     alloc: Global,
     order: Order,
     verified: &Verified,
     arguments: &[i64],
+    explored: &Explored<'_>,
     limit: Limit,
 ) -> Result<Outcomes, AllocError>
-    requires { AreArguments verified.now arguments.now }
+    requires arguments { AreArguments verified.now arguments.now }
+    requires explored { IsExplored order (opening_core verified.now arguments.now)
+        limit.entries explored.now }
     ensures shown { IfOk result
         (λ r. AreShownIn order verified.now arguments.now r.list.items) }
     ensures distinct { IfOk result (λ r. AreDistinct r.list.items) }
@@ -241,9 +264,7 @@ fn searched_in(
 {
     let mut listed = Listed::new(alloc);
     note_plain(alloc, order, &mut listed, verified, arguments)?;
-    let start = Core::open(alloc, verified, arguments)?;
-    let explored = explore(alloc, order, start, limit.entries)?;
-    let all = list_found(alloc, order, &mut listed, &explored, limit.outcomes)?;
+    let all = list_found(alloc, order, &mut listed, explored, limit.outcomes)?;
     let list = listed.into_outcomes(alloc)?;
     Ok(Outcomes {
         list,

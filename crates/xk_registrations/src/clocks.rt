@@ -5,7 +5,7 @@ ghost use Rattle.std.specs.List.{list_all};
 ghost use Rattle.xk_clocks.specs.Table.{count_at, is_ready_count};
 ghost use Rattle.xk_registrations.specs.RegistrationChanges.{calls, noted_in, made_clocks, call_resume, call_drop, call_register, OwesResume, OwesDrop, OwesRegister, Allows};
 
-use crate::last_advance::{list_places, put_or_take, turn_to};
+use crate::last_advance::{copy_steps, list_places, put_or_take, turn_to};
 use crate::registration::Registration;
 use std::alloc::{AllocError, Global};
 use std::marker::Model;
@@ -49,6 +49,19 @@ impl Clocks {
             lasts: Vec::with_capacity(alloc, clocks as usize)?,
             newest: 0,
             latest: FewNumbers::with_room(alloc, clocks)?,
+        })
+    }
+
+    /// The same clocks, with as much room, from the memory that these are in.
+    pub fn copy(&self) -> Result<Clocks, AllocError>
+        ensures { IfOk result (λ c. c ≡ self.now) }
+    {
+        let table = self.table.copy()?;
+        Ok(Clocks {
+            table,
+            lasts: copy_steps(&self.lasts)?,
+            newest: self.newest,
+            latest: self.latest.copy()?,
         })
     }
 

@@ -1,9 +1,10 @@
 //! The clocks that advanced in the newest step.
 
-ghost use Rattle.std.specs.Prelude.{◌≡◌, ◌<◌, ◌≤◌, nat_lt, max, [], length, if◌then◌else◌, vec_capacity};
+ghost use Rattle.std.specs.Prelude.{◌≡◌, ◌<◌, ◌≤◌, nat_lt, max, [], length, if◌then◌else◌, vec_capacity, IfOk};
 ghost use Rattle.xk_collections.specs.NumberSets.{with_member};
 ghost use Rattle.xk_registrations.specs.RegistrationChanges.{noted_in};
 
+use std::alloc::AllocError;
 use xk_collections::FewNumbers;
 
 /// Puts a number into the set, or takes it out.
@@ -30,6 +31,18 @@ pub fn turn_to(set: &mut FewNumbers, newest: u64, now: u64) -> u64
     }
     set.clear();
     now
+}
+
+/// The same numbers of steps, with as much room, from the memory that these are in.
+pub fn copy_steps(steps: &Vec<u64>) -> Result<Vec<u64>, AllocError>
+    ensures items { IfOk result (λ v. v.items ≡ steps.now.items) }
+    ensures room { IfOk result (λ v. vec_capacity v ≡ vec_capacity steps.now) }
+{
+    let mut copy = Vec::with_capacity(*steps.allocator(), steps.capacity())?;
+    for step in steps {
+        copy.push_reserved(*step);
+    }
+    Ok(copy)
 }
 
 /// Lists the places at which the number stands, rising, in a list with nothing in it.

@@ -1,6 +1,6 @@
 //! What one activity is registered on.
 
-ghost use Rattle.std.specs.Prelude.{◌≡◌, ℕ, ◌<◌, ◌≤◌, [], ◌∷◌, ◌++◌, length, None, IfOk, OnOk};
+ghost use Rattle.std.specs.Prelude.{◌≡◌, ℕ, ◌<◌, ◌≤◌, [], ◌∷◌, ◌++◌, length, None, IfOk, OnOk, OnErr};
 ghost use Rattle.xk_types.specs.Step.{is_given};
 ghost use Rattle.xk_registrations.specs.View.{reg_on, AreDistinct};
 ghost use Rattle.xk_registrations.specs.RegistrationChanges.{concerns, calls, call_resume, call_drop, call_register, regs_open, regs_on, regs_resumed, regs_passed, phase_at, others, with_taken, made_clocks, IsGiven, OwesResume, OwesDrop, OwesRegister, AreAllowed};
@@ -14,7 +14,7 @@ use std::alloc::{AllocError, Global};
 use std::marker::Model;
 use xk_types::{ClockId, Value};
 
-/// The registrations of one activity, no two on one clock. Room for them is taken when they are opened or inherited; nothing
+/// The registrations of one activity, no two on one clock. Room for them is taken when they are opened, copied or inherited; nothing
 /// else takes memory. `laws::goes_with_steps` says what the calls make of the clocks of a world.
 #[derive(Drop)]
 pub struct Registrations {
@@ -40,6 +40,21 @@ impl Registrations {
     {
         let mut list = SmallVec::new(alloc);
         list.reserve(room)?;
+        Ok(Registrations { list })
+    }
+
+    /// The same, with as much room, from the memory that these are in.
+    pub fn copy(&self) -> Result<Registrations, AllocError>
+        ensures same { IfOk result (λ r. r ≡ self.now) }
+        // Room for one lies in the registrations themselves.
+        ensures only_where_it_grows { OnErr result (1 < self.now.room) }
+    {
+        // For `room` of `push_reserved`: no more than there is room for.
+        let _len = self.list.len();
+        let mut list = SmallVec::with_capacity(*self.list.allocator(), self.list.capacity())?;
+        for registration in self.list.as_slice() {
+            list.push_reserved(*registration);
+        }
         Ok(Registrations { list })
     }
 

@@ -20,8 +20,8 @@ use xk_types::{ClockId, Standing, Value};
 /// registered on. It tells of the clocks of a world, with a standing for each activity. What a call costs goes by what the activity
 /// is registered on that it concerns, not by how many clocks and activities there are.
 ///
-/// Room for clocks and for what activities are registered on is taken when the standings are opened and when an activity is
-/// started. Nothing else takes memory.
+/// Room for clocks and for what activities are registered on is taken when the standings are opened or copied, and when an activity
+/// is started. Nothing else takes memory.
 #[derive(Drop)]
 pub struct Standings {
     clocks: Clocks,
@@ -60,6 +60,18 @@ impl Standings {
         let clocks = Clocks::open(alloc, clocks)?;
         let mut held = Vec::new(alloc);
         held.push(Registrations::open(alloc, places)?)?;
+        Ok(Standings { clocks, held })
+    }
+
+    /// The same, with as much room, from the memory that these are in.
+    pub fn copy(&self) -> Result<Standings, AllocError>
+        ensures { IfOk result (λ s. s ≡ self.now) }
+    {
+        let mut held = Vec::with_capacity(*self.held.allocator(), self.held.capacity())?;
+        for registrations in &self.held {
+            held.push_reserved(registrations.copy()?);
+        }
+        let clocks = self.clocks.copy()?;
         Ok(Standings { clocks, held })
     }
 

@@ -4,7 +4,7 @@ use Rattle.std.proofs.Common.{inr, refl, sym, ap, subst, arith}
 use Rattle.std.specs.Prelude.{◌⊎◌}
 use Rattle.std.proofs.lemmas.Bool.{false≢true}
 use Rattle.std.proofs.lemmas.Option.{none-some, same_Some}
-use Rattle.xk_outcomes.specs.Expected.{stray_line}
+use Rattle.xk_outcome_lists.specs.Expected.{stray_line}
 use Rattle.serde_json.specs.Written.{compact_text}
 use Rattle.xk_types.specs.declared.world.Entry.{Entry}
 use Rattle.xk_types.specs.Acceptance.{IsAccepted}
@@ -33,7 +33,7 @@ use Rattle.xk_program.specs.declared.fault.Fault.{Fault}
 use Rattle.xk_program.specs.declared.fault.Fault.TheVariants as fault
 use Rattle.xk_serve.specs.Notes.{told_of}
 use Rattle.xk_serve.specs.Answer.{Answers, IsSaidBy, Reply, Task, asks_verifier, done_reply, fault_reply, reads_list, reads_log, runs}
-use Rattle.xk_answers.specs.Results.{Check, ComesTo, Compile, Doing, Draw, Expected, ExpectedShown, Explain, IsLogText, IsNoRun, IsTelling}
+use Rattle.xk_answers.specs.Results.{Check, ComesTo, Compile, Count, Doing, Draw, Expected, ExpectedShown, Explain, IsLogText, IsNoRun, IsTelling}
 use Rattle.xk_answers.specs.Results.{OutcomesShown, RunShown}
 use Rattle.xk_answers.specs.Results.{IsText, Json, Listing, OutcomePage, Outcomes, Races, Replay, Run, Tally, Where, is_of_whole, list_in}
 use Rattle.xk_program.specs.Refusals.{IsMisfit}
@@ -78,10 +78,11 @@ Prints Replay m args logged out log =
     IsAccepted m × (numbers : List ℤ) × (steps : ℕ) × (es : List Entry) × IsLogText logged es × IsReplay m args es numbers steps × (out ≡ number_lines numbers ++ ended_line steps) × (log ≡ [])
 Prints (Draw picture) m args logged out log = ⊥
 Prints (Where at) m args logged out log = ⊥
-Prints Races m args logged out log = ⊥
+Prints (Races json) m args logged out log = ⊥
 Prints (Tally seed runs) m args logged out log = ⊥
 Prints (OutcomePage window limit pick) m args logged out log = ⊥
 Prints (Outcomes sets limit pick kept) m args logged out log = IsAccepted m × AreArguments m args
+Prints (Count sets limit) m args logged out log = IsAccepted m × AreArguments m args
 Prints (Expected sets limit) m args logged out log = IsAccepted m × AreArguments m args × (stray_line (list_in logged) ≡ None)
 Prints (Json s) m args logged out log = IsAccepted m × PrintsShown s m args logged out log
 
@@ -112,11 +113,13 @@ prints Replay m args logged (done.Ended numbers steps None None) h = (h.0, numbe
 prints Replay m args logged _ h = absurd h
 prints (Draw picture) m args logged d h = absurd h
 prints (Where at) m args logged d h = absurd h
-prints Races m args logged d h = absurd h
+prints (Races json) m args logged d h = absurd h
 prints (Tally seed runs) m args logged d h = absurd h
 prints (OutcomePage window limit pick) m args logged d h = absurd h
 prints (Outcomes sets limit pick kept) m args logged (done.Outcomes t whole log) h = (h.0, h.1.taken)
 prints (Outcomes sets limit pick kept) m args logged _ h = absurd h.1
+prints (Count sets limit) m args logged (done.Outcomes t whole log) h = (h.0, h.1.taken)
+prints (Count sets limit) m args logged _ h = absurd h.1
 prints (Expected sets limit) m args logged (done.Held t found) h = (h.0, h.1.0, h.1.1.may_stand)
 prints (Expected sets limit) m args logged _ h = absurd h.1
 prints (Json s) m args logged d h = (h.0, prints_shown s m args logged d h.1)
@@ -136,10 +139,11 @@ prints_accepted (Run (By n) kept) m args logged out log asks h = h.0
 prints_accepted Replay m args logged out log asks h = h.0
 prints_accepted (Draw picture) m args logged out log asks h = absurd h
 prints_accepted (Where at) m args logged out log asks h = absurd h
-prints_accepted Races m args logged out log asks h = absurd h
+prints_accepted (Races json) m args logged out log asks h = absurd h
 prints_accepted (Tally seed runs) m args logged out log asks h = absurd h
 prints_accepted (OutcomePage window limit pick) m args logged out log asks h = absurd h
 prints_accepted (Outcomes sets limit pick kept) m args logged out log asks h = h.0
+prints_accepted (Count sets limit) m args logged out log asks h = h.0
 prints_accepted (Expected sets limit) m args logged out log asks h = h.0
 prints_accepted (Json s) m args logged out log asks h = h.0
 
@@ -158,10 +162,11 @@ prints_taken (Run (By n) kept) m args logged out log run h = h.1
 prints_taken Replay m args logged out log run h = run_taken _ m args h.1 h.2 h.5
 prints_taken (Draw picture) m args logged out log run h = absurd h
 prints_taken (Where at) m args logged out log run h = absurd h
-prints_taken Races m args logged out log run h = absurd h
+prints_taken (Races json) m args logged out log run h = absurd h
 prints_taken (Tally seed runs) m args logged out log run h = absurd h
 prints_taken (OutcomePage window limit pick) m args logged out log run h = absurd h
 prints_taken (Outcomes sets limit pick kept) m args logged out log run h = h.1
+prints_taken (Count sets limit) m args logged out log run h = h.1
 prints_taken (Expected sets limit) m args logged out log run h = h.1
 prints_taken (Json s) m args logged out log run h = shown_taken s m args logged out log h.1
 
@@ -181,10 +186,11 @@ prints_whole (Run way kept) m args logged out log reads h = absurd (false≢true
 prints_whole Replay m args logged out log reads h = (h.3, h.4, replay_whole m args h.1 h.2 h.3 h.5)
 prints_whole (Draw picture) m args logged out log reads h = absurd h
 prints_whole (Where at) m args logged out log reads h = absurd h
-prints_whole Races m args logged out log reads h = absurd h
+prints_whole (Races json) m args logged out log reads h = absurd h
 prints_whole (Tally seed runs) m args logged out log reads h = absurd h
 prints_whole (OutcomePage window limit pick) m args logged out log reads h = absurd h
 prints_whole (Outcomes sets limit pick kept) m args logged out log reads h = absurd (false≢true reads)
+prints_whole (Count sets limit) m args logged out log reads h = absurd (false≢true reads)
 prints_whole (Expected sets limit) m args logged out log reads h = absurd (false≢true reads)
 prints_whole (Json s) m args logged out log reads h = absurd (false≢true reads)
 
@@ -226,10 +232,11 @@ prints_once Replay m args logged out log other kept none p q =
     (p.6 ∙ same_lines p.1 q.1 p.2 q.2 same.0 same.1 ∙ sym q.6, p.7 ∙ sym q.7)
 prints_once (Draw picture) m args logged out log other kept none p q = absurd p
 prints_once (Where at) m args logged out log other kept none p q = absurd p
-prints_once Races m args logged out log other kept none p q = absurd p
+prints_once (Races json) m args logged out log other kept none p q = absurd p
 prints_once (Tally seed runs) m args logged out log other kept none p q = absurd p
 prints_once (OutcomePage window limit pick) m args logged out log other kept none p q = absurd p
 prints_once (Outcomes sets limit pick written) m args logged out log other kept none p q = absurd none
+prints_once (Count sets limit) m args logged out log other kept none p q = absurd none
 prints_once (Expected sets limit) m args logged out log other kept none p q = absurd none
 prints_once (Json s) m args logged out log other kept none p q = shown_once s m args logged out log other kept none p.1 q.1
 
@@ -252,10 +259,11 @@ said_determined (Run way kept) kind file bytes said f h one = h
 said_determined Replay kind file bytes said f h one = h
 said_determined (Draw picture) kind file bytes said f h one = h
 said_determined (Where at) kind file bytes said f h one = h
-said_determined Races kind file bytes said f h one = h
+said_determined (Races json) kind file bytes said f h one = h
 said_determined (Tally seed runs) kind file bytes said f h one = h
 said_determined (OutcomePage window limit pick) kind file bytes said f h one = h
 said_determined (Outcomes sets limit pick kept) kind file bytes said f h one = h
+said_determined (Count sets limit) kind file bytes said f h one = h
 said_determined (Expected sets limit) kind file bytes said f h one = h
 said_determined (Json s) kind file bytes said f h one = h
 
@@ -302,7 +310,7 @@ telling_stands : (what : Doing) (kind : Form) (file bytes : List ℕ) (m : Modul
 telling_stands (Draw picture) kind file bytes m args logged told f reads h told_by may not4 =
     let of = h.1 in picture_stands picture m args logged of.0 f of.1 of.2 of.3 told_by may not4
 telling_stands (Where at) kind file bytes m args logged told f reads h told_by may not4 = text_stands at m args logged h.1.1.0 f h.1.1.1 told_by may not4
-telling_stands Races kind file bytes m args logged told f reads h told_by may not4 = false≢true reads
+telling_stands (Races json) kind file bytes m args logged told f reads h told_by may not4 = false≢true reads
 telling_stands (Tally seed count) kind file bytes m args logged told f reads h told_by may not4 = false≢true reads
 telling_stands (OutcomePage window limit pick) kind file bytes m args logged told f reads h told_by may not4 = false≢true reads
 telling_stands (Explain json) kind file bytes m args logged told f reads h told_by may not4 = false≢true reads
@@ -312,6 +320,7 @@ telling_stands Compile kind file bytes m args logged told f reads h told_by may 
 telling_stands (Run way kept) kind file bytes m args logged told f reads h told_by may not4 = h
 telling_stands Replay kind file bytes m args logged told f reads h told_by may not4 = h
 telling_stands (Outcomes sets limit pick kept) kind file bytes m args logged told f reads h told_by may not4 = h
+telling_stands (Count sets limit) kind file bytes m args logged told f reads h told_by may not4 = h
 telling_stands (Expected sets limit) kind file bytes m args logged told f reads h told_by may not4 = h
 telling_stands (Json s) kind file bytes m args logged told f reads h told_by may not4 = h
 
@@ -320,7 +329,7 @@ telling_taken : (what : Doing) (kind : Form) (file bytes : List ℕ) (m : Module
     → IsTelling what kind file bytes m args logged told → AreArguments m args
 telling_taken (Draw picture) kind file bytes m args logged told run h = subst (AreArguments m) h.1.2.given h.1.2.leads.0
 telling_taken (Where at) kind file bytes m args logged told run h = h.1.0
-telling_taken Races kind file bytes m args logged told run h = run_taken _ m args h.1.0 h.1.1 h.1.3
+telling_taken (Races json) kind file bytes m args logged told run h = run_taken _ m args h.1.0 h.1.1 h.1.3
 telling_taken (Tally seed runs) kind file bytes m args logged told run h = h.1
 telling_taken (OutcomePage window limit pick) kind file bytes m args logged told run h = h.1.3.found.taken
 telling_taken (Explain json) kind file bytes m args logged told run h = absurd (false≢true run)
@@ -330,6 +339,7 @@ telling_taken Compile kind file bytes m args logged told run h = absurd h
 telling_taken (Run way kept) kind file bytes m args logged told run h = absurd h
 telling_taken Replay kind file bytes m args logged told run h = absurd h
 telling_taken (Outcomes sets limit pick kept) kind file bytes m args logged told run h = absurd h
+telling_taken (Count sets limit) kind file bytes m args logged told run h = absurd h
 telling_taken (Expected sets limit) kind file bytes m args logged told run h = absurd h
 telling_taken (Json s) kind file bytes m args logged told run h = absurd h
 
@@ -340,7 +350,7 @@ telling_unprinted (Explain json) kind file bytes m args logged told out log h p 
 telling_unprinted Listing kind file bytes m args logged told out log h p = p
 telling_unprinted (Draw picture) kind file bytes m args logged told out log h p = p
 telling_unprinted (Where at) kind file bytes m args logged told out log h p = p
-telling_unprinted Races kind file bytes m args logged told out log h p = p
+telling_unprinted (Races json) kind file bytes m args logged told out log h p = p
 telling_unprinted (Tally seed runs) kind file bytes m args logged told out log h p = p
 telling_unprinted (OutcomePage window limit pick) kind file bytes m args logged told out log h p = p
 telling_unprinted Check kind file bytes m args logged told out log h p = h
@@ -348,6 +358,7 @@ telling_unprinted Compile kind file bytes m args logged told out log h p = h
 telling_unprinted (Run way kept) kind file bytes m args logged told out log h p = h
 telling_unprinted Replay kind file bytes m args logged told out log h p = h
 telling_unprinted (Outcomes sets limit pick kept) kind file bytes m args logged told out log h p = h
+telling_unprinted (Count sets limit) kind file bytes m args logged told out log h p = h
 telling_unprinted (Expected sets limit) kind file bytes m args logged told out log h p = h
 telling_unprinted (Json s) kind file bytes m args logged told out log h p = h
 
@@ -356,7 +367,7 @@ telling_accepted : (what : Doing) (kind : Form) (file bytes : List ℕ) (m : Mod
 telling_accepted (Explain json) kind file bytes m args logged told asks h = h.0
 telling_accepted (Draw picture) kind file bytes m args logged told asks h = h.0
 telling_accepted (Where at) kind file bytes m args logged told asks h = h.0
-telling_accepted Races kind file bytes m args logged told asks h = h.0
+telling_accepted (Races json) kind file bytes m args logged told asks h = h.0
 telling_accepted (Tally seed runs) kind file bytes m args logged told asks h = h.0
 telling_accepted (OutcomePage window limit pick) kind file bytes m args logged told asks h = h.0
 telling_accepted Listing kind file bytes m args logged told asks h = absurd (false≢true asks)
@@ -365,6 +376,7 @@ telling_accepted Compile kind file bytes m args logged told asks h = absurd h
 telling_accepted (Run way kept) kind file bytes m args logged told asks h = absurd h
 telling_accepted Replay kind file bytes m args logged told asks h = absurd h
 telling_accepted (Outcomes sets limit pick kept) kind file bytes m args logged told asks h = absurd h
+telling_accepted (Count sets limit) kind file bytes m args logged told asks h = absurd h
 telling_accepted (Expected sets limit) kind file bytes m args logged told asks h = absurd h
 telling_accepted (Json s) kind file bytes m args logged told asks h = absurd h
 
@@ -398,6 +410,7 @@ lists_alone (Json (RunShown way kept)) lists = absurd (false≢true lists)
 lists_alone (Json (OutcomesShown sets limit pick kept)) lists = absurd (false≢true lists)
 lists_alone (Json (ExpectedShown sets limit)) lists = (sets, limit, inr refl)
 lists_alone (Outcomes sets limit pick kept) lists = absurd (false≢true lists)
+lists_alone (Count sets limit) lists = absurd (false≢true lists)
 lists_alone (Explain json) lists = absurd (false≢true lists)
 lists_alone Check lists = absurd (false≢true lists)
 lists_alone Compile lists = absurd (false≢true lists)
@@ -406,7 +419,7 @@ lists_alone (Run way kept) lists = absurd (false≢true lists)
 lists_alone Replay lists = absurd (false≢true lists)
 lists_alone (Draw picture) lists = absurd (false≢true lists)
 lists_alone (Where at) lists = absurd (false≢true lists)
-lists_alone Races lists = absurd (false≢true lists)
+lists_alone (Races json) lists = absurd (false≢true lists)
 lists_alone (Tally seed runs) lists = absurd (false≢true lists)
 lists_alone (OutcomePage window limit pick) lists = absurd (false≢true lists)
 
@@ -494,10 +507,11 @@ determined (Run (By n) kept) one = absurd one
 determined Replay one = tt
 determined (Draw picture) one = tt
 determined (Where at) one = tt
-determined Races one = tt
+determined (Races json) one = tt
 determined (Tally seed runs) one = tt
 determined (OutcomePage window limit pick) one = absurd one
 determined (Outcomes sets limit pick kept) one = absurd one
+determined (Count sets limit) one = absurd one
 determined (Expected sets limit) one = absurd one
 determined (Json s) one = one
 
@@ -513,10 +527,11 @@ determined_status (Run (By n) kept) one = absurd one
 determined_status Replay one = tt
 determined_status (Draw picture) one = tt
 determined_status (Where at) one = tt
-determined_status Races one = tt
+determined_status (Races json) one = tt
 determined_status (Tally seed runs) one = tt
 determined_status (OutcomePage window limit pick) one = absurd one
 determined_status (Outcomes sets limit pick kept) one = absurd one
+determined_status (Count sets limit) one = absurd one
 determined_status (Expected sets limit) one = absurd one
 determined_status (Json s) one = shown_status s one
 

@@ -28,5 +28,6 @@ explains (command.Span log) json e = cc
 explains (command.Why log step) json e = cc
 explains (command.Races log) json e = cc
 explains (command.Outcomes limit pick log sets) json e = cc
+explains (command.Count limit sets) json e = cc
 explains (command.Expected list limit sets) json e = cc
 explains (command.Json v) json e = cc

@@ -5,7 +5,7 @@ use Rattle.xk_jobs.specs.Tasks.{By, Greedy, In}
 use Rattle.xk_answers.specs.declared.job_result.Done.{Done}
 use Rattle.xk_answers.specs.declared.job_result.Done.TheVariants as done
 use Rattle.xk_answers.specs.Printed.{done_status, whole_status}
-use Rattle.xk_answers.specs.Results.{Check, ComesTo, Compile, Doing, Draw, Expected, ExpectedShown, Explain, Json, Listing, OutcomePage}
+use Rattle.xk_answers.specs.Results.{Check, ComesTo, Compile, Count, Doing, Draw, Expected, ExpectedShown, Explain, Json, Listing, OutcomePage}
 use Rattle.xk_answers.specs.Results.{Outcomes, OutcomesShown, Races, Replay, Run, RunShown, Tally, Where}
 use Rattle.xk_serve.specs.OneAnswer.{HasOneStatus}
 
@@ -25,10 +25,11 @@ done_zero (Run (By n) true) m args l (done.Outcomes t w k) one h = absurd h
 done_zero Replay m args l (done.Outcomes t w k) one h = absurd h
 done_zero (Draw picture) m args l (done.Outcomes t w k) one h = absurd h
 done_zero (Where at) m args l (done.Outcomes t w k) one h = absurd h
-done_zero Races m args l (done.Outcomes t w k) one h = absurd h
+done_zero (Races json) m args l (done.Outcomes t w k) one h = absurd h
 done_zero (Tally seed runs) m args l (done.Outcomes t w k) one h = absurd h
 done_zero (OutcomePage window limit pick) m args l (done.Outcomes t w k) one h = absurd h
 done_zero (Outcomes sets limit pick kept) m args l (done.Outcomes t w k) one h = absurd one
+done_zero (Count sets limit) m args l (done.Outcomes t w k) one h = absurd one
 done_zero (Expected sets limit) m args l (done.Outcomes t w k) one h = absurd one
 done_zero (Json (RunShown way kept)) m args l (done.Outcomes t w k) one h = ap whole_status h.1.whole_is
 done_zero (Json (OutcomesShown sets limit pick kept)) m args l (done.Outcomes t w k) one h = absurd one
@@ -46,10 +47,11 @@ done_zero (Run (By n) true) m args l (done.Held t found) one h = absurd h
 done_zero Replay m args l (done.Held t found) one h = absurd h
 done_zero (Draw picture) m args l (done.Held t found) one h = absurd h
 done_zero (Where at) m args l (done.Held t found) one h = absurd h
-done_zero Races m args l (done.Held t found) one h = absurd h
+done_zero (Races json) m args l (done.Held t found) one h = absurd h
 done_zero (Tally seed runs) m args l (done.Held t found) one h = absurd h
 done_zero (OutcomePage window limit pick) m args l (done.Held t found) one h = absurd h
 done_zero (Outcomes sets limit pick kept) m args l (done.Held t found) one h = absurd one
+done_zero (Count sets limit) m args l (done.Held t found) one h = absurd one
 done_zero (Expected sets limit) m args l (done.Held t found) one h = absurd one
 done_zero (Json (RunShown way kept)) m args l (done.Held t found) one h = absurd h.1
 done_zero (Json (OutcomesShown sets limit pick kept)) m args l (done.Held t found) one h = absurd one
@@ -69,10 +71,11 @@ done_zero (Run (By n) true) m args l (done.Told t whole) one h = absurd h
 done_zero Replay m args l (done.Told t whole) one h = absurd h
 done_zero (Draw picture) m args l (done.Told t whole) one h = absurd h
 done_zero (Where at) m args l (done.Told t whole) one h = absurd h
-done_zero Races m args l (done.Told t whole) one h = absurd h
+done_zero (Races json) m args l (done.Told t whole) one h = absurd h
 done_zero (Tally seed runs) m args l (done.Told t whole) one h = absurd h
 done_zero (OutcomePage window limit pick) m args l (done.Told t whole) one h = absurd h
 done_zero (Outcomes sets limit pick kept) m args l (done.Told t whole) one h = absurd h.1
+done_zero (Count sets limit) m args l (done.Told t whole) one h = absurd h.1
 done_zero (Expected sets limit) m args l (done.Told t whole) one h = absurd h.1
 done_zero (Json (RunShown way kept)) m args l (done.Told t whole) one h = absurd h.1
 done_zero (Json (OutcomesShown sets limit pick kept)) m args l (done.Told t whole) one h = absurd one

@@ -24,7 +24,7 @@ use Rattle.xk_answers.specs.declared.job_result.Done.{Done}
 use Rattle.xk_answers.specs.declared.job_result.Done.TheVariants as done
 use Rattle.xk_answers.specs.Explanation.{IsExplanation, Tale, fault_said, refusal_said}
 use Rattle.xk_answers.specs.Printed.{done_status, done_text, whole_status}
-use Rattle.xk_answers.specs.Results.{Check, ComesTo, Compile, Doing, Draw, Expected, Explain, IsTelling}
+use Rattle.xk_answers.specs.Results.{Check, ComesTo, Compile, Count, Doing, Draw, Expected, Explain, IsTelling}
 use Rattle.xk_answers.specs.Results.{IsText, Json, Listing, OutcomePage, Outcomes, Races, Replay, Run, Tally, Where}
 use Rattle.xk_serve.specs.Notes.{may_note}
 use Rattle.xk_serve.proofs.NoteLemmas.{unnoted}
@@ -85,10 +85,11 @@ said_by_once (Run way kept) kind file bytes f a b h k = h ∙ sym k
 said_by_once Replay kind file bytes f a b h k = h ∙ sym k
 said_by_once (Draw picture) kind file bytes f a b h k = h ∙ sym k
 said_by_once (Where at) kind file bytes f a b h k = h ∙ sym k
-said_by_once Races kind file bytes f a b h k = h ∙ sym k
+said_by_once (Races json) kind file bytes f a b h k = h ∙ sym k
 said_by_once (Tally seed count) kind file bytes f a b h k = h ∙ sym k
 said_by_once (OutcomePage window limit pick) kind file bytes f a b h k = h ∙ sym k
 said_by_once (Outcomes sets limit pick kept) kind file bytes f a b h k = h ∙ sym k
+said_by_once (Count sets limit) kind file bytes f a b h k = h ∙ sym k
 said_by_once (Expected sets limit) kind file bytes f a b h k = h ∙ sym k
 said_by_once (Json s) kind file bytes f a b h k = h ∙ sym k
 

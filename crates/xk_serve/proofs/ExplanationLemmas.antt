@@ -5,7 +5,7 @@ use Rattle.xk_jobs.specs.declared.job.Form.{Form}
 use Rattle.xk_module.specs.declared.fault.ModuleFault.TheVariants as text
 use Rattle.xk_program.specs.declared.fault.Fault.{Fault}
 use Rattle.xk_program.specs.declared.fault.Fault.TheVariants as fault
-use Rattle.xk_answers.specs.Results.{Check, Compile, Doing, Draw, Expected, Explain, Listing}
+use Rattle.xk_answers.specs.Results.{Check, Compile, Count, Doing, Draw, Expected, Explain, Listing}
 use Rattle.xk_answers.specs.Results.{Json, OutcomePage, Outcomes, Races, Replay, Run, Tally, Where}
 use Rattle.xk_serve.specs.Answer.{IsSaidBy, IsSaidOf, Task}
 use Rattle.xk_answers.specs.Explanation.{IsExplanation}
@@ -47,10 +47,11 @@ quiet_by (Run way kept) kind file bytes said f h = λ e. h
 quiet_by Replay kind file bytes said f h = λ e. h
 quiet_by (Draw picture) kind file bytes said f h = λ e. h
 quiet_by (Where at) kind file bytes said f h = λ e. h
-quiet_by Races kind file bytes said f h = λ e. h
+quiet_by (Races json) kind file bytes said f h = λ e. h
 quiet_by (Tally seed runs) kind file bytes said f h = λ e. h
 quiet_by (OutcomePage window limit pick) kind file bytes said f h = λ e. h
 quiet_by (Outcomes sets limit pick kept) kind file bytes said f h = λ e. h
+quiet_by (Count sets limit) kind file bytes said f h = λ e. h
 quiet_by (Expected sets limit) kind file bytes said f h = λ e. h
 quiet_by (Json s) kind file bytes said f h = λ e. h
 

@@ -16,7 +16,7 @@ use Rattle.xk_program.specs.declared.fault.Fault.TheVariants as fault
 use Rattle.xk_module.specs.declared.fault.ModuleFault.{ModuleFault}
 use Rattle.xk_program.specs.Programs.{Gives, IsNoModule, IsNoSource, IsNoText, IsTooLong, longest_module, longest_source}
 use Rattle.xk_program.specs.Bytes.{kept}
-use Rattle.xk_answers.specs.Results.{Check, ComesTo, Compile, Doing, Draw, Expected, Explain, IsTelling}
+use Rattle.xk_answers.specs.Results.{Check, ComesTo, Compile, Count, Doing, Draw, Expected, Explain, IsTelling}
 use Rattle.xk_answers.specs.Results.{IsText, Json, Listing, OutcomePage, Outcomes, Races, Replay, Run, Tally, Where}
 use Rattle.xk_serve.specs.Answer.{FailsBy, GivesAccepted, IsSaidBy, IsSaidOf, Succeeds, Task}
 use Rattle.xk_explain_expected.specs.Notes.{expected_notes}
@@ -176,10 +176,11 @@ same_said (Run way kept) kind file bytes known said f e h = h
 same_said Replay kind file bytes known said f e h = h
 same_said (Draw picture) kind file bytes known said f e h = h
 same_said (Where at) kind file bytes known said f e h = h
-same_said Races kind file bytes known said f e h = h
+same_said (Races json) kind file bytes known said f e h = h
 same_said (Tally seed runs) kind file bytes known said f e h = h
 same_said (OutcomePage window limit pick) kind file bytes known said f e h = h
 same_said (Outcomes sets limit pick kept) kind file bytes known said f e h = h
+same_said (Count sets limit) kind file bytes known said f e h = h
 same_said (Expected sets limit) kind file bytes known said f e h = h
 same_said (Json s) kind file bytes known said f e h = h
 
@@ -197,10 +198,11 @@ device_unsaid (Run way kept) kind file bytes said h = h
 device_unsaid Replay kind file bytes said h = h
 device_unsaid (Draw picture) kind file bytes said h = h
 device_unsaid (Where at) kind file bytes said h = h
-device_unsaid Races kind file bytes said h = h
+device_unsaid (Races json) kind file bytes said h = h
 device_unsaid (Tally seed runs) kind file bytes said h = h
 device_unsaid (OutcomePage window limit pick) kind file bytes said h = h
 device_unsaid (Outcomes sets limit pick kept) kind file bytes said h = h
+device_unsaid (Count sets limit) kind file bytes said h = h
 device_unsaid (Expected sets limit) kind file bytes said h = h
 device_unsaid (Json s) kind file bytes said h = h
 

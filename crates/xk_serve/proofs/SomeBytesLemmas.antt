@@ -6,7 +6,7 @@ use Rattle.std.specs.Io.KnownBytes.{Appends}
 use Rattle.xk_jobs.specs.declared.job.Form.{Form}
 use Rattle.xk_answers.specs.declared.job_result.Done.{Done}
 use Rattle.xk_answers.specs.Printed.{done_status}
-use Rattle.xk_answers.specs.Results.{Check, Compile, Doing, Draw, Expected, Explain, Listing}
+use Rattle.xk_answers.specs.Results.{Check, Compile, Count, Doing, Draw, Expected, Explain, Listing}
 use Rattle.xk_answers.specs.Results.{Json, OutcomePage, Outcomes, Races, Replay, Run, Tally, Where}
 use Rattle.xk_answers.proofs.LogLemmas.{some_any, some_each}
 use Rattle.xk_program.specs.Bytes.{FailsRead, kept}
@@ -43,10 +43,11 @@ memory_unsaid (Run way kept) kind file bytes said e = e
 memory_unsaid Replay kind file bytes said e = e
 memory_unsaid (Draw picture) kind file bytes said e = e
 memory_unsaid (Where at) kind file bytes said e = e
-memory_unsaid Races kind file bytes said e = e
+memory_unsaid (Races json) kind file bytes said e = e
 memory_unsaid (Tally seed runs) kind file bytes said e = e
 memory_unsaid (OutcomePage window limit pick) kind file bytes said e = e
 memory_unsaid (Outcomes sets limit pick kept) kind file bytes said e = e
+memory_unsaid (Count sets limit) kind file bytes said e = e
 memory_unsaid (Expected sets limit) kind file bytes said e = e
 memory_unsaid (Json s) kind file bytes said e = e
 

@@ -10,7 +10,7 @@ use Rattle.xk_bounds.specs.declared.refusal.Refusal.TheVariants as refusal
 use Rattle.xk_answers.specs.declared.job_result.Done.{Done}
 use Rattle.xk_program.specs.declared.fault.Fault.{Fault}
 use Rattle.xk_program.specs.declared.fault.Fault.TheVariants as fault
-use Rattle.xk_answers.specs.Results.{Check, ComesTo, Compile, Doing, Draw, Expected, Explain, IsNoRun, IsTelling}
+use Rattle.xk_answers.specs.Results.{Check, ComesTo, Compile, Count, Doing, Draw, Expected, Explain, IsNoRun, IsTelling}
 use Rattle.xk_answers.specs.Results.{IsText, Json, Listing, OutcomePage, Outcomes, Races, Replay, Run, Tally, Where}
 use Rattle.xk_serve.specs.Answer.{FailsBy, Succeeds, Task, asks_verifier, reads_list, reads_log, reads_more, runs, wants_legal, wants_whole}
 use Rattle.xk_program.specs.Refusals.{IsNotRun, IsRefusal}
@@ -189,10 +189,11 @@ runs_asks (Run way kept) h = refl
 runs_asks Replay h = refl
 runs_asks (Draw picture) h = refl
 runs_asks (Where at) h = refl
-runs_asks Races h = refl
+runs_asks (Races json) h = refl
 runs_asks (Tally seed runs) h = refl
 runs_asks (OutcomePage window limit pick) h = refl
 runs_asks (Outcomes sets limit pick kept) h = refl
+runs_asks (Count sets limit) h = refl
 runs_asks (Expected sets limit) h = refl
 runs_asks (Json s) h = refl
 
@@ -287,10 +288,11 @@ reads_runs (Run way kept) h = refl
 reads_runs Replay h = refl
 reads_runs (Draw picture) h = refl
 reads_runs (Where at) h = refl
-reads_runs Races h = refl
+reads_runs (Races json) h = refl
 reads_runs (Tally seed runs) h = refl
 reads_runs (OutcomePage window limit pick) h = refl
 reads_runs (Outcomes sets limit pick kept) h = refl
+reads_runs (Count sets limit) h = refl
 reads_runs (Expected sets limit) h = refl
 reads_runs (Json s) h = refl
 
@@ -352,10 +354,11 @@ lists_runs (Run way kept) h = refl
 lists_runs Replay h = refl
 lists_runs (Draw picture) h = refl
 lists_runs (Where at) h = refl
-lists_runs Races h = refl
+lists_runs (Races json) h = refl
 lists_runs (Tally seed runs) h = refl
 lists_runs (OutcomePage window limit pick) h = refl
 lists_runs (Outcomes sets limit pick kept) h = refl
+lists_runs (Count sets limit) h = refl
 lists_runs (Expected sets limit) h = refl
 lists_runs (Json s) h = refl
 

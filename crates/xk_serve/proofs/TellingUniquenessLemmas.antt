@@ -16,7 +16,7 @@ use Rattle.xk_jobs.specs.declared.job.Form.TheVariants as form
 use Rattle.xk_types.specs.declared.world.Entry.{Entry}
 use Rattle.xk_answers.specs.declared.picture.Picture.{Picture}
 use Rattle.xk_answers.specs.declared.picture.Picture.TheVariants as picture
-use Rattle.xk_answers.specs.Results.{Check, Compile, Doing, Draw, Expected, Explain, IsPicture, IsTelling}
+use Rattle.xk_answers.specs.Results.{Check, Compile, Count, Doing, Draw, Expected, Explain, IsPicture, IsTelling}
 use Rattle.xk_answers.specs.Results.{Json, Listing, OutcomePage, Outcomes, Races, Replay, Run, Tally, Where}
 use Rattle.xk_program.specs.Origins.{HaveOrigins, HaveSharedNames, IsByNames, IsByOrigins}
 use Rattle.xk_answers.specs.Explanation.{HaveHints, IsListed, Tale, acceptance_told, event_values_so_far, events_so_far, image_so_far}
@@ -99,8 +99,8 @@ picture_once picture.Span kind file bytes m args es last a b given h k =
     by_origins_once kind bytes m (span_told bytes m args es) a b given h k
 picture_once (picture.Why step) kind file bytes m args es last a b given h k =
     by_names_once kind bytes m (why_told bytes step m args es) a b given h k
-picture_once picture.Races kind file bytes m args es last a b given h k =
-    by_names_once kind bytes m (races_told bytes m args es) a b given h k
+picture_once (picture.Races json) kind file bytes m args es last a b given h k =
+    by_names_once kind bytes m (races_told json bytes m args es) a b given h k
 
 -- what has one status is told as one text
 pub telling_once : (what : Doing) (kind : Form) (file bytes : List ℕ) (m : ModuleValue) (args : List ℤ) (logged : List ℕ) (a b : Tale)
@@ -123,18 +123,19 @@ telling_once (Where at) kind file bytes m args logged a b one given h k =
     let same = text_once logged there.0 here.0 there.1 here.1 in
     by_names_once kind bytes m (where_told bytes m args at here.0) a b given here.2
     (subst (λ es. IsByNames kind bytes (where_told bytes m args at es) b) same there.2)
-telling_once Races kind file bytes m args logged a b one given h k =
+telling_once (Races json) kind file bytes m args logged a b one given h k =
     let here = h.1 in
     let there = k.1 in
     let same = logged_once order.First m args there.0 here.0 there.1 here.1 there.2 here.2 there.3 here.3 in
-    by_names_once kind bytes m (races_told bytes m args here.2) a b given here.4
-    (subst (λ es. IsByNames kind bytes (races_told bytes m args es) b) same.2 there.4)
+    by_names_once kind bytes m (races_told json bytes m args here.2) a b given here.4
+    (subst (λ es. IsByNames kind bytes (races_told json bytes m args es) b) same.2 there.4)
 telling_once (Tally seed runs) kind file bytes m args logged a b one given h k = same_tale (tally_once m args seed runs a.0 b.0 h.2.0 k.2.0) (h.2.1 ∙ sym k.2.1)
 telling_once Check kind file bytes m args logged a b one given h k = absurd h
 telling_once Compile kind file bytes m args logged a b one given h k = absurd h
 telling_once (Run way kept) kind file bytes m args logged a b one given h k = absurd h
 telling_once Replay kind file bytes m args logged a b one given h k = absurd h
 telling_once (Outcomes sets limit pick kept) kind file bytes m args logged a b one given h k = absurd h
+telling_once (Count sets limit) kind file bytes m args logged a b one given h k = absurd h
 telling_once (Expected sets limit) kind file bytes m args logged a b one given h k = absurd h
 telling_once (Json s) kind file bytes m args logged a b one given h k = absurd h
 telling_once (OutcomePage window limit pick) kind file bytes m args logged a b one given h k = absurd one

@@ -65,6 +65,7 @@ HasOneShownStatus _ = ⊥
 abbrev pub ComesToOne : Doing → Type 0
 ComesToOne (Run (By n) kept) = ⊥
 ComesToOne (Outcomes sets limit pick kept) = ⊥
+ComesToOne (Count sets limit) = ⊥
 ComesToOne (Expected sets limit) = ⊥
 ComesToOne (Json s) = IsOneShown s
 ComesToOne _ = ⊤
@@ -74,6 +75,7 @@ ComesToOne _ = ⊤
 abbrev pub IsDetermined : Doing → Type 0
 IsDetermined (Run (By n) kept) = ⊥
 IsDetermined (Outcomes sets limit pick kept) = ⊥
+IsDetermined (Count sets limit) = ⊥
 IsDetermined (Expected sets limit) = ⊥
 IsDetermined (OutcomePage window limit pick) = ⊥
 IsDetermined (Explain json) = ⊥
@@ -83,6 +85,7 @@ IsDetermined _ = ⊤
 -- the status is one: no outcomes are looked for, which may be all or not, and of which one may be there or not
 abbrev pub HasOneStatus : Doing → Type 0
 HasOneStatus (Outcomes sets limit pick kept) = ⊥
+HasOneStatus (Count sets limit) = ⊥
 HasOneStatus (Expected sets limit) = ⊥
 HasOneStatus (OutcomePage window limit pick) = ⊥
 HasOneStatus (Json s) = HasOneShownStatus s

@@ -102,16 +102,19 @@ fn may_note(command: &Command<'_>) -> bool
         | Command::Tally { .. }
         | Command::OutcomePage { .. }
         | Command::Outcomes { .. }
+        | Command::Count { .. }
         | Command::Expected { .. } => false,
     }
 }
 
 /// The same of what is told as JSON.
+#[tactic(auto, using(crate::proofs::NoteLemmas::races_noted))]
 fn may_note_values(values: &Values<'_>) -> bool
     ensures { result ≡ may_note (values_doing values.now) }
 {
     match values {
         Values::Events { .. } => true,
+        Values::Races { log } => log.is_some(),
         Values::Run { .. } | Values::Outcomes { .. } | Values::Expected { .. } => false,
     }
 }

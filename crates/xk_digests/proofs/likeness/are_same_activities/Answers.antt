@@ -8,7 +8,7 @@ pub returns-then-not-branch : goal.returns-then-not-branch
 returns-then-not-branch c = (
   λ q. absurd (false≢true q),
   λ e.
-      let yes = c.in_ok-is_same_activity.ensures.1 (same_acts (live_of c.args.live.now) c.args.traced.now.world.activities
+      let yes = c.in_ok-is_same_activity.ensures.1 (same_acts (live_of c.args.live.now) c.args.core.now.world.activities
       c.args.other.now.world.activities c.loop-a.a e
       (omega (arith, c.loop-a-test.true, c.activities-a-end.ensures.count))
       (omega (arith, c.loop-a-test.true, c.activities-a-end.ensures.count, c.requires))) in
@@ -18,7 +18,7 @@ returns-then-not-branch c = (
 
 pub returns : goal.returns
 returns c = (
-  λ q. acts_same (live_of c.args.live.now) c.args.traced.now.world.activities c.args.other.now.world.activities c.requires
+  λ q. acts_same (live_of c.args.live.now) c.args.core.now.world.activities c.args.other.now.world.activities c.requires
       (λ b lt. c.loop-a.invariant b (omega (arith, lt, c.activities-a-end.ensures.count, c.loop-a-test.false))),
   λ e. refl,
 )

@@ -7,5 +7,5 @@ use Rattle.xk_digests.proofs.likeness.are_same_activities.Given as goal
 -- so far all are the same
 abbrev pub invariant-loop-a : goal.invariant-loop-a
 invariant-loop-a l = (b : ℕ) → b < l.a
-    → live_activity (live_of l.live) (act_at l.traced.world.activities b)
+    → live_activity (live_of l.live) (act_at l.core.world.activities b)
     ≡ live_activity (live_of l.live) (act_at l.other.world.activities b)

@@ -3,7 +3,7 @@ use Rattle.std.specs.Prelude.{unwrap_or}
 use Rattle.xk_answers.specs.declared.picture.Picture.TheVariants as picture
 use Rattle.std.proofs.lemmas.Bool.{false≢true}
 use Rattle.std.proofs.lemmas.Result.{err_from_is_err_and}
-use Rattle.xk_answers.specs.Results.{Check, Compile, Draw, Expected, OutcomePage, Outcomes, Races, Replay, Run, Where, way_given}
+use Rattle.xk_answers.specs.Results.{Check, Compile, Count, Draw, Expected, OutcomePage, Outcomes, Races, Replay, Run, Where, way_given}
 use Rattle.xk_jobs.specs.CommandAnswers.{explanation, shows_origins}
 use Rattle.xk_serve.specs.Answer.{doing_of, races_by, task_of}
 use Rattle.xk_serve.proofs.TaskLemmas.{against_any, against_list, against_log, against_memory, against_picture}
@@ -175,23 +175,23 @@ returns-in-Where-clause-fault g c =
 
 pub returns-then-given-clause-done : goal.returns-then-given-clause-done
 returns-then-given-clause-done g c =
-    let is = ap doing_of c.in-Races.is ∙ ap races_by (sym c.is_some-given.ensures ∙ c.if-given.true) in
-    done_of_run (task_of c.args.job.now) c.args.bytes.now (g.L.Source.remaining c.args.log_in.now) _ (Draw picture.Races) c.as_slice-arguments.result.now c.drawn-then-given.result is c.as_slice-arguments.ensures.value refl c.in_ok-program.ensures.module (c.drawn-then-given.ensures.done c.args.job.now.form c.args.bytes.now (c.in_ok-program.ensures.from.0, λ _. c.in_ok-program.ensures.from.1 (c.shows_origins.ensures ∙ ap shows_origins c.in-Races.is)))
+    let is = ap doing_of c.in-Races.is ∙ ap (races_by false) (sym c.is_some-given.ensures ∙ c.if-given.true) in
+    done_of_run (task_of c.args.job.now) c.args.bytes.now (g.L.Source.remaining c.args.log_in.now) _ (Draw (picture.Races false)) c.as_slice-arguments.result.now c.drawn-then-given.result is c.as_slice-arguments.ensures.value refl c.in_ok-program.ensures.module (c.drawn-then-given.ensures.done c.args.job.now.form c.args.bytes.now (c.in_ok-program.ensures.from.0, λ _. c.in_ok-program.ensures.from.1 (c.shows_origins.ensures ∙ ap shows_origins c.in-Races.is)))
 
 pub returns-else-given-clause-done : goal.returns-else-given-clause-done
 returns-else-given-clause-done g c =
-    let is = ap doing_of c.in-Races.is ∙ ap races_by (sym c.is_some-given.ensures ∙ c.if-given.false) in
-    done_of_told (task_of c.args.job.now) c.args.bytes.now (g.L.Source.remaining c.args.log_in.now) _ Races c.as_slice-arguments.result.now c.raced.result is c.as_slice-arguments.ensures.value c.in_ok-program.ensures.module (λ logged. c.raced.ensures.done c.args.job.now.form c.args.job.now.file.now c.args.bytes.now logged (c.in_ok-program.ensures.from.0, λ _. c.in_ok-program.ensures.from.1 (c.shows_origins.ensures ∙ ap shows_origins c.in-Races.is)))
+    let is = ap doing_of c.in-Races.is ∙ ap (races_by false) (sym c.is_some-given.ensures ∙ c.if-given.false) in
+    done_of_told (task_of c.args.job.now) c.args.bytes.now (g.L.Source.remaining c.args.log_in.now) _ (Races false) c.as_slice-arguments.result.now c.raced.result is c.as_slice-arguments.ensures.value c.in_ok-program.ensures.module (λ logged. c.raced.ensures.done c.args.job.now.form c.args.job.now.file.now c.args.bytes.now logged (c.in_ok-program.ensures.from.0, λ _. c.in_ok-program.ensures.from.1 (c.shows_origins.ensures ∙ ap shows_origins c.in-Races.is)))
 
 pub returns-then-given-clause-fault : goal.returns-then-given-clause-fault
 returns-then-given-clause-fault g c =
-    let is = ap doing_of c.in-Races.is ∙ ap races_by (sym c.is_some-given.ensures ∙ c.if-given.true) in
-    against_picture (task_of c.args.job.now) c.args.bytes.now (g.L.Source.remaining c.args.log_in.now) _ _ _ picture.Races c.as_slice-arguments.result.now c.drawn-then-given.result is c.as_slice-arguments.ensures.value c.in_ok-program.ensures.module c.drawn-then-given.ensures.fault c.drawn-then-given.ensures.stands
+    let is = ap doing_of c.in-Races.is ∙ ap (races_by false) (sym c.is_some-given.ensures ∙ c.if-given.true) in
+    against_picture (task_of c.args.job.now) c.args.bytes.now (g.L.Source.remaining c.args.log_in.now) _ _ _ (picture.Races false) c.as_slice-arguments.result.now c.drawn-then-given.result is c.as_slice-arguments.ensures.value c.in_ok-program.ensures.module c.drawn-then-given.ensures.fault c.drawn-then-given.ensures.stands
 
 pub returns-else-given-clause-fault : goal.returns-else-given-clause-fault
 returns-else-given-clause-fault g c =
-    let is = ap doing_of c.in-Races.is ∙ ap races_by (sym c.is_some-given.ensures ∙ c.if-given.false) in
-    against_run_of (task_of c.args.job.now) c.args.bytes.now (g.L.Source.remaining c.args.log_in.now) _ _ Races c.as_slice-arguments.result.now c.raced.result is c.as_slice-arguments.ensures.value refl c.in_ok-program.ensures.module c.raced.ensures.fault
+    let is = ap doing_of c.in-Races.is ∙ ap (races_by false) (sym c.is_some-given.ensures ∙ c.if-given.false) in
+    against_run_of (task_of c.args.job.now) c.args.bytes.now (g.L.Source.remaining c.args.log_in.now) _ _ (Races false) c.as_slice-arguments.result.now c.raced.result is c.as_slice-arguments.ensures.value refl c.in_ok-program.ensures.module c.raced.ensures.fault
 
 pub returns-in-Tally-clause-done : goal.returns-in-Tally-clause-done
 returns-in-Tally-clause-done g c =
@@ -211,6 +211,15 @@ returns-in-Outcomes-clause-done g c =
 pub returns-in-Outcomes-clause-fault : goal.returns-in-Outcomes-clause-fault
 returns-in-Outcomes-clause-fault g c =
     against_run_of (task_of c.args.job.now) c.args.bytes.now (g.L.Source.remaining c.args.log_in.now) _ _ _ c.as_slice-arguments.result.now c.searched.result (ap doing_of c.in-Outcomes.is) c.as_slice-arguments.ensures.value refl c.in_ok-program.ensures.module c.searched.ensures.fault
+
+pub returns-in-Count-clause-done : goal.returns-in-Count-clause-done
+returns-in-Count-clause-done g c =
+    let what = Count c.in-Count.sets c.in-Count.limit in
+    done_of_any (task_of c.args.job.now) c.args.bytes.now (g.L.Source.remaining c.args.log_in.now) _ what c.as_slice-arguments.result.now c.counted.result (ap doing_of c.in-Count.is) c.as_slice-arguments.ensures.value c.in_ok-program.ensures.module c.counted.ensures.done
+
+pub returns-in-Count-clause-fault : goal.returns-in-Count-clause-fault
+returns-in-Count-clause-fault g c =
+    against_run_of (task_of c.args.job.now) c.args.bytes.now (g.L.Source.remaining c.args.log_in.now) _ _ _ c.as_slice-arguments.result.now c.counted.result (ap doing_of c.in-Count.is) c.as_slice-arguments.ensures.value refl c.in_ok-program.ensures.module c.counted.ensures.fault
 
 pub returns-in-Expected-clause-done : goal.returns-in-Expected-clause-done
 returns-in-Expected-clause-done g c =
