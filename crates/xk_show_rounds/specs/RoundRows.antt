@@ -1,6 +1,6 @@
 -- What is drawn of a run by rounds: a row for each round of a machine with a processor for each activity, and in each lane what its
 -- activity does in that round, if it does anything. That it is drawn so is this project's own.
-use Rattle.std.specs.Prelude.{◌≡◌, ℕ, zero, suc, ◌-◌, max, nat_eq, nat_le, Bool, List, [], ◌∷◌, ◌++◌, length, filter, find, count_by}
+use Rattle.std.specs.Prelude.{◌≡◌, ℕ, zero, suc, ◌-◌, max, nat_eq, nat_le, List, [], ◌++◌, length, filter, find, count_by}
 use Rattle.std.specs.Prelude.{slice_index_or, Option, Some, None, codes, decimal, if◌then◌else◌}
 use Rattle.std.specs.Str.{bytes_eq}
 use Rattle.xk_types.specs.Schedule.{is_local}
