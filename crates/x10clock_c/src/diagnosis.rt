@@ -11,8 +11,8 @@ ghost use Rattle.x10clock_c.specs.Diagnosis.{IsDiagnosed, RefusesCode, code_posi
 use crate::verdict::{Checked, bounds_of, front_told, refusal_told};
 use std::alloc::{AllocError, Global};
 use xk_bounds::Refusal;
-use xk_jobs::Form;
 use xk_explain::{SourceText, has_place, origin_at, shown_at};
+use xk_jobs::Form;
 use xk_lines::Position;
 use xk_program::{Fault, Program, accepted, program_by};
 use xk_tree::FrontFault;

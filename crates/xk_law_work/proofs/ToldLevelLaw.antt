@@ -92,8 +92,7 @@ level_for_all m args log z p limits ok taken some one free =
     let g = rounds_exist None m args limits ok taken tt in
     let all = greedy m (opening m args) g.0 g.1 g.2 in
     let other : IsWholeRun m args (steps_in g.1) g.0 = record { legal = rounds_lead None m (opening m args) g.0 g.1 g.2; ended = g.3 } in
-    let d = rounds_dealt m args g.0 p g.1 limits ok taken some (rounds_of m (opening m args) g.0 g.1 all) other in
-    (
+    let d = rounds_dealt m args g.0 p g.1 limits ok taken some (rounds_of m (opening m args) g.0 g.1 all) other in (
       g.0,
       d.0,
       d.1,

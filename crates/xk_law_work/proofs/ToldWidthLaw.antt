@@ -109,8 +109,7 @@ module _ (m : ModuleValue) (args : List ℤ) (limits : IsWithinLimits m) (ok : I
           (round_for_all m args log z r.0 r.1 limits ok taken legal r.2 r.3) in
           let own : 0 + r.0 ≡ r.0 = omega arith in
           let a = all_picked times n 0 es r.0 r.1 r.2 (ap is_step r.3)
-          (ap (number_at times) own ∙ one_round m w s y (number_at times r.0) n told here) in
-          (
+          (ap (number_at times) own ∙ one_round m w s y (number_at times r.0) n told here) in (
             a.0,
             get_map name_at (picked times n 0 es) a.0 ∙ ap (option_map name_at) (a.1 ∙ ap Some own)
                 ∙ ap (λ o. Some (name_if_any o)) r.2 ∙ ap Some r.4,

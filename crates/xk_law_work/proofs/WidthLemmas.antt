@@ -90,8 +90,7 @@ module _ (times : List ℕ) (n : ℕ) where
   all_picked i (x ∷ ds) zero d at is here =
       let own : i + 0 ≡ i = omega arith in
       let step : is_step x.part ≡ true = ap (λ (y : Deed). is_step y.part) (same_Some x d at) ∙ is in
-      let round : nat_eq (number_at times i) n ≡ true = eq-eqb (number_at times i) n (ap (number_at times) (sym own) ∙ here) in
-      (
+      let round : nat_eq (number_at times i) n ≡ true = eq-eqb (number_at times i) n (ap (number_at times) (sym own) ∙ here) in (
         0,
         ap (λ b. slice_get (with_step b (nat_eq (number_at times i) n) i (picked (suc i) ds)) 0) step
             ∙ ap (λ b. slice_get (with_step true b i (picked (suc i) ds)) 0) round ∙ ap Some (sym own),
