@@ -181,8 +181,7 @@ module _ (m : ModuleValue) (args : List ℤ) (limits : IsWithinLimits m) (ok : I
             leads = x.2;
           } in
           let d = later x.0 x.1 (omega (arith, few, sum, most, some)) second in
-          let left : length rest ≡ length list - p = omega (arith, few, sum) in
-          (
+          let left : length rest ≡ length list - p = omega (arith, few, sum) in (
             q ∷ d.0,
             (x.0, first, d.1),
             (omega (arith, few), d.2),
@@ -207,8 +206,7 @@ module _ (m : ModuleValue) (args : List ℤ) (limits : IsWithinLimits m) (ok : I
       (run_then m before r w v leads ∙ all.1.leads) all.2 in
       let n = length_on a.0 b.0 in
       let x = a.4 in
-      let y = b.4 in
-      (
+      let y = b.4 in (
         a.0 ++ b.0,
         rounds_on m v all.0 z a.0 b.0 a.1 b.1,
         within_on p a.0 b.0 a.2 b.2,

@@ -669,8 +669,7 @@ module _ (m : ModuleValue) (args : List ℤ) (limits : IsWithinLimits m) (ok : I
   pub told_all : (y : StepName) → IsTaken s y → (k : ℕ) × (d : Deed) × IsAt es k d × (d.part ≡ part.Print) × (name_told d ≡ y)
   told_all y h =
       let t = step_of_name y h in
-      let d = itself m args limits ok taken log z legal t.0 in
-      (
+      let d = itself m args limits ok taken log z legal t.0 in (
         place_of t.0,
         d,
         stands m args limits ok taken log z legal t.0 (place_of t.0) d (told_itself t.0),

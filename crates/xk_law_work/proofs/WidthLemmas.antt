@@ -15,7 +15,8 @@ use Rattle.xk_span_summary.specs.Shares.{width_with, widths_from, widths_of}
 
 -- ---- steps of a round
 
-counted_at : (c n : ℕ) (widths : List ℕ) → number_at (counted c widths) n ≡ cond (nat_eq c n) (suc (number_at widths n)) (number_at widths n)
+counted_at : (c n : ℕ) (widths : List ℕ)
+    → number_at (counted c widths) n ≡ cond (nat_eq c n) (suc (number_at widths n)) (number_at widths n)
 counted_at c n widths = elim (cases_eq c n) [
   | inl same ↦ (let one : number_at widths c + 1 ≡ suc (number_at widths c) = omega arith in
       ap (number_at (counted c widths)) (sym same) ∙ with_at_same 0 widths c (number_at widths c + 1) ∙ one
@@ -90,8 +91,7 @@ module _ (times : List ℕ) (n : ℕ) where
   all_picked i (x ∷ ds) zero d at is here =
       let own : i + 0 ≡ i = omega arith in
       let step : is_step x.part ≡ true = ap (λ (y : Deed). is_step y.part) (same_Some x d at) ∙ is in
-      let round : nat_eq (number_at times i) n ≡ true = eq-eqb (number_at times i) n (ap (number_at times) (sym own) ∙ here) in
-      (
+      let round : nat_eq (number_at times i) n ≡ true = eq-eqb (number_at times i) n (ap (number_at times) (sym own) ∙ here) in (
         0,
         ap (λ b. slice_get (with_step b (nat_eq (number_at times i) n) i (picked (suc i) ds)) 0) step
             ∙ ap (λ b. slice_get (with_step true b i (picked (suc i) ds)) 0) round ∙ ap Some (sym own),
