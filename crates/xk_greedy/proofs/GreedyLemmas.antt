@@ -54,7 +54,8 @@ once_at a k xs false none once = once
 pub turns_once : (p : ℕ → Bool) (a k n : ℕ) → turns_of a (filter p (numbers_from k n)) ≤ 1
 turns_once p a k zero = omega arith
 turns_once p a k (suc n) =
-    once_at a k (filter p (numbers_from (suc k) n)) (p k) (λ same. turns_below p a (suc k) n (omega (arith, same))) (turns_once p a (suc k) n)
+    once_at a k (filter p (numbers_from (suc k) n)) (p k) (λ same. turns_below p a (suc k) n (omega (arith, same)))
+    (turns_once p a (suc k) n)
 
 -- and whoever of the row passes it is there
 there_at : (p : ℕ → Bool) (a k : ℕ) (xs : List ℕ) (b : Bool) → p k ≡ b → p a ≡ true → ((k ≡ a → ⊥) → 0 < turns_of a xs)

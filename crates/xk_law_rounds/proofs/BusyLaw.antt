@@ -1,6 +1,6 @@
 -- How many rounds a run takes on so many processors: at least, and at most where none is idle while somebody could take a step.
-use Rattle.std.proofs.Common.{◌≡◌, ◌∙◌, ℕ, ℤ, zero, suc, ◌+◌, ◌-◌, ◌*◌, ◌/◌, ◌<◌, ◌≤◌, ◌⊎◌, inl, inr, Bool, true, false, List, [], ◌∷◌, ◌++◌}
-use Rattle.std.proofs.Common.{length, refl, sym, ap, subst, arith, append_assoc, length-append}
+use Rattle.std.proofs.Common.{◌≡◌, ◌∙◌, ℕ, ℤ, zero, suc, ◌+◌, ◌-◌, ◌*◌, ◌/◌, ◌<◌, ◌≤◌, ◌⊎◌, inl, inr, Bool, true, false, List, [], ◌∷◌}
+use Rattle.std.proofs.Common.{◌++◌, length, refl, sym, ap, subst, arith, append_assoc, length-append}
 use Rattle.std.proofs.lemmas.Bool.{cases_eq, cases_lt}
 use Rattle.std.proofs.lemmas.List.{append-nil}
 use Rattle.std.proofs.lemmas.Nat.{le-div}
@@ -87,8 +87,8 @@ module _ (m : ModuleValue) (args : List ℤ) (limits : IsWithinLimits m) (ok : I
   any_round before r k behind y here not = behind y here (λ b. not (let n = turns_on y.0 before r in omega (arith, n, b)))
 
   -- in a round where all take a step who can, there's a link to each step that comes later
-  module _ (before r after : List ℕ) (v : World) (is : s ≡ before ++ (r ++ after)) (leads : run m before w ≡ Through v) (full : IsFull m v r)
-      (k : ℕ) (behind : AreBehind before k) where
+  module _ (before r after : List ℕ) (v : World) (is : s ≡ before ++ (r ++ after)) (leads : run m before w ≡ Through v)
+      (full : IsFull m v r) (k : ℕ) (behind : AreBehind before k) where
     link : (y : StepName) → IsTaken s y → (IsTaken (before ++ r) y → ⊥) → HasLink before y
     link y here not = by (cases_eq (turns_of y.0 before) y.1)
       where
@@ -122,7 +122,8 @@ module _ (m : ModuleValue) (args : List ℤ) (limits : IsWithinLimits m) (ok : I
         absurd (omega (arith, a, b, most))
     in_front (suc n) front back u split legal most y here not =
         by (cases_lt x.0.1 (turns_of x.0.0 (before ++ r)))
-        (λ apart_too. in_front n f.front (y.0 ∷ (f.back ++ back)) f.here apart f.leads (omega (arith, shorter, most)) x.0 before_it apart_too)
+        (λ apart_too. in_front n f.front (y.0 ∷ (f.back ++ back)) f.here apart f.leads (omega (arith, shorter, most)) x.0 before_it
+        apart_too)
       where
         f : WasTaken m w front y.0 y.1
         f = was_taken m front w u y.0 y.1 legal here
@@ -164,7 +165,10 @@ module _ (m : ModuleValue) (args : List ℤ) (limits : IsWithinLimits m) (ok : I
       let a = first_of r some in
       let y : StepName = (a.0, turns_of a.0 before) in
       let all : turns_of a.0 s ≡ turns_of a.0 before + (turns_of a.0 r + turns_of a.0 after) =
-      (let e = ap (turns_of a.0) is in let b = turns_on a.0 before (r ++ after) in let c = turns_on a.0 r after in omega (arith, e, b, c)) in
+      (let e = ap (turns_of a.0) is in
+      let b = turns_on a.0 before (r ++ after) in
+      let c = turns_on a.0 r after in
+      omega (arith, e, b, c)) in
       let more = a.1 in
       let here : IsTaken s y = omega (arith, all, more) in
       let c = behind y here (λ less. omega (arith, less)) in

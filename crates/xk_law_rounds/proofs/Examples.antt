@@ -94,7 +94,8 @@ pair_dealt = (refl, refl, refl, refl)
 -- the first round, on one processor: main takes a step, and nobody else could
 first_enabled : (a : ℕ) → 0 < turns_of a (0 ∷ []) → is_enabled pair_row start a ≡ true
 first_enabled zero some = refl
-first_enabled (suc a) some = absurd (let none = turns_other (suc a) 0 [] (ne_eqb 0 (suc a) (λ is. omega (arith, is))) in omega (arith, some, none))
+first_enabled (suc a) some =
+    absurd (let none = turns_other (suc a) 0 [] (ne_eqb 0 (suc a) (λ is. omega (arith, is))) in omega (arith, some, none))
 
 first_once : (a : ℕ) → turns_of a (0 ∷ []) ≤ 1
 first_once zero = omega arith

@@ -15,7 +15,7 @@ use Rattle.xk_law_traces.proofs.SwapLemmas.{get_map}
 use Rattle.xk_law_rounds.specs.Rounds.{AreGreedy, IsInRound, IsRound, IsTakenIn, steps_in}
 use Rattle.xk_law_rounds.specs.Widths.{AreInRound, HasWidth}
 use Rattle.xk_law_rounds.proofs.SpanLaw.{greedy_rounds, steps_of}
-use Rattle.xk_law_rounds.proofs.WidthLaw.{get_of}
+use Rattle.xk_law_rounds.proofs.WidthLaw.{mapped_from}
 
 -- ---- turns in a list
 
@@ -182,7 +182,7 @@ module _ (m : ModuleValue) (args : List ℤ) (limits : IsWithinLimits m) (ok : I
       where
         each : (i : ℕ) (y : StepName) → slice_get (map step_by r) i ≡ Some y → IsInRound m w (steps_in rounds) y (suc (length before))
         each i y h =
-            let b = get_of step_by r i y h in
+            let b = mapped_from step_by (slice_get r i) y (sym (get_map step_by r i) ∙ h) in
             subst (λ x. IsInRound m w (steps_in rounds) x (suc (length before))) b.2
             (greedy_rounds m args z before r after (step_by b.0) limits ok taken all whole (taken_by b.0 (turn_at b.0 r i b.1)))
 
@@ -204,8 +204,8 @@ module _ (m : ModuleValue) (args : List ℤ) (limits : IsWithinLimits m) (ok : I
 
         once_there : (i j : ℕ) (y : StepName) → slice_get (map step_by r) i ≡ Some y → slice_get (map step_by r) j ≡ Some y → i ≡ j
         once_there i j y g h =
-            let b = get_of step_by r i y g in
-            let c = get_of step_by r j y h in
+            let b = mapped_from step_by (slice_get r i) y (sym (get_map step_by r i) ∙ g) in
+            let c = mapped_from step_by (slice_get r j) y (sym (get_map step_by r j) ∙ h) in
             let same : c.0 ≡ b.0 = ap (λ (x : StepName). x.0) (c.2 ∙ sym b.2) in
             one_place b.0 r i j (once b.0) b.1 (subst (λ k. slice_get r j ≡ Some k) same c.1)
 

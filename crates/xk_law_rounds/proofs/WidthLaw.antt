@@ -1,6 +1,6 @@
 -- Where one run has no race, as many steps come in each round in each run to the end.
-use Rattle.std.proofs.Common.{◌≡◌, ◌∙◌, ℕ, ℤ, zero, suc, ◌==◌, ◌<◌, ◌≤◌, inl, inr, cond, List, [], ◌∷◌, length, map, Some, refl, ap, sym}
-use Rattle.std.proofs.Common.{subst, arith, eq-eqb, ne_eqb}
+use Rattle.std.proofs.Common.{◌≡◌, ◌∙◌, ℕ, ℤ, zero, suc, ◌==◌, ◌<◌, ◌≤◌, inl, inr, cond, List}
+use Rattle.std.proofs.Common.{length, map, Option, Some, None, refl, ap, sym, subst, arith, eq-eqb, ne_eqb}
 use Rattle.std.specs.Prelude.{option_map, slice_get}
 use Rattle.std.proofs.lemmas.Bool.{cases_eq}
 use Rattle.std.proofs.lemmas.List.{length-map}
@@ -74,11 +74,9 @@ one_width m w s n c d p q =
 
 -- ---- by name
 
-pub get_of : {X Y : Type 0} (g : X → Y) (xs : List X) (i : ℕ) (y : Y) → slice_get (map g xs) i ≡ Some y
-    → (x : X) × (slice_get xs i ≡ Some x) × (g x ≡ y)
-get_of g [] i y e = absurd (none-some y e)
-get_of g (x ∷ xs) zero y e = (x, refl, same_Some (g x) y e)
-get_of g (x ∷ xs) (suc i) y e = get_of g xs i y e
+pub mapped_from : {X Y : Type 0} (g : X → Y) (o : Option X) (y : Y) → option_map g o ≡ Some y → (x : X) × (o ≡ Some x) × (g x ≡ y)
+mapped_from g None y e = absurd (none-some y e)
+mapped_from g (Some x) y e = (x, refl, same_Some (g x) y e)
 
 module _ (m : ModuleValue) (w : World) (s t : List ℕ) (to : HaveSameRounds m w s t) (from : HaveSameRounds m w t s)
     (again : from.back ≡ to.names) where
@@ -93,15 +91,17 @@ module _ (m : ModuleValue) (w : World) (s t : List ℕ) (to : HaveSameRounds m w
 
   steps_there : (n : ℕ) (list : List StepName) → AreInRound m w s n list → AreInRound m w t n (map there list)
   steps_there n list h = record {
-    each = λ i y is. (let x = get_of there list i y is in subst (λ u. IsInRound m w t u n) x.2 (to.rounds x.0 n (h.each i x.0 x.1)));
+    each = λ i y is.
+        (let x = mapped_from there (slice_get list i) y (sym (get_map there list i) ∙ is) in
+        subst (λ u. IsInRound m w t u n) x.2 (to.rounds x.0 n (h.each i x.0 x.1)));
     all = λ y r.
         (let x : StepName = (from.names y.0, y.1) in
         let i = h.all x (from.rounds y n r) in
         let own : to.names (from.names y.0) ≡ y.0 = ap (λ f. f (from.names y.0)) (sym again) ∙ from.once y r.taken in
         (i.0, get_map there list i.0 ∙ ap (option_map there) i.1 ∙ ap (λ k. Some (k, y.1)) own));
     once = λ i j y is too.
-        (let x = get_of there list i y is in
-        let u = get_of there list j y too in
+        (let x = mapped_from there (slice_get list i) y (sym (get_map there list i) ∙ is) in
+        let u = mapped_from there (slice_get list j) y (sym (get_map there list j) ∙ too) in
         let one = same_name n u.0 x.0 (h.each j u.0 u.1) (h.each i x.0 x.1) (u.2 ∙ sym x.2) in
         h.once i j x.0 x.1 (subst (λ v. slice_get list j ≡ Some v) one u.1));
   }
@@ -112,7 +112,8 @@ module _ (m : ModuleValue) (w : World) (s t : List ℕ) (to : HaveSameRounds m w
 -- ---- the laws
 
 module _ (m : ModuleValue) (args : List ℤ) (s t : List ℕ) (z y : World) (limits : IsWithinLimits m) (ok : IsAccepted m)
-    (taken : AreArguments m args) (one : IsWholeRun m args s z) (free : HasNoRace m (opening m args) s) (other : IsWholeRun m args t y) where
+    (taken : AreArguments m args) (one : IsWholeRun m args s z) (free : HasNoRace m (opening m args) s)
+    (other : IsWholeRun m args t y) where
   abbrev w : World
   w = opening m args
 

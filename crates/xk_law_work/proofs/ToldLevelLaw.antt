@@ -78,7 +78,8 @@ module _ (m : ModuleValue) (args : List ℤ) (log : List Entry) (z y : World) (r
           (subst (λ rs. HasWidth m w (steps_in rs) (suc (length c.0)) (length c.1)) (sym c.3)
           (greedy_widths m args y c.0 c.1 c.2 limits ok taken (subst (λ rs. AreGreedy m w rs y) c.3 all)
           (subst (λ rs. IsWholeRun m args (steps_in rs) y) c.3 other))) in
-          one_width m w (steps_in rounds) (suc k) (number_at (told_widths m args log) (suc k)) (length c.1) (width_there (suc k)) own ∙ sym c.5
+          one_width m w (steps_in rounds) (suc k) (number_at (told_widths m args log) (suc k)) (length c.1) (width_there (suc k)) own
+          ∙ sym c.5
 
   as_told : (p : ℕ) → 0 < p → level_rounds p (told_widths m args log) ≡ dealt_rounds p rounds
   as_told p some = level_is p some (told_widths m args log) rounds none_first later

@@ -24,7 +24,7 @@ use Rattle.xk_span_summary.specs.Shares.{widths_of}
 use Rattle.xk_law_rounds.specs.Rounds.{IsInRound}
 use Rattle.xk_law_rounds.specs.Widths.{AreInRound, HasWidth, IsWidest}
 use Rattle.xk_law_rounds.proofs.GreedyWidthLaw.{one_round}
-use Rattle.xk_law_rounds.proofs.WidthLaw.{get_of, one_width, same_widths}
+use Rattle.xk_law_rounds.proofs.WidthLaw.{mapped_from, one_width, same_widths}
 use Rattle.xk_law_work.specs.Told.{told_widest, told_widths}
 use Rattle.xk_law_work.proofs.ToldSpanLaw.{round_for_all, told_all, told_once}
 use Rattle.xk_law_work.proofs.WidthLemmas.{all_picked, as_wide, each_picked, greatest_most, greatest_reached, once_picked, picked}
@@ -79,7 +79,7 @@ module _ (m : ModuleValue) (args : List ℤ) (limits : IsWithinLimits m) (ok : I
 
   step_of : (n a : ℕ) (y : StepName) → slice_get (map name_at (picked times n 0 es)) a ≡ Some y → IsStepOf n a y
   step_of n a y h =
-      let j = get_of name_at (picked times n 0 es) a y h in
+      let j = mapped_from name_at (slice_get (picked times n 0 es) a) y (sym (get_map name_at (picked times n 0 es) a) ∙ h) in
       let p = each_picked times n 0 es a j.0 j.1 in
       let same : p.0 ≡ j.0 = (let e = p.2 in omega (arith, e)) in
       let at : slice_get es j.0 ≡ Some p.1 = subst (λ k. slice_get es k ≡ Some p.1) same p.3 in

@@ -15,7 +15,8 @@ use Rattle.xk_span_summary.specs.Shares.{width_with, widths_from, widths_of}
 
 -- ---- steps of a round
 
-counted_at : (c n : ℕ) (widths : List ℕ) → number_at (counted c widths) n ≡ cond (nat_eq c n) (suc (number_at widths n)) (number_at widths n)
+counted_at : (c n : ℕ) (widths : List ℕ)
+    → number_at (counted c widths) n ≡ cond (nat_eq c n) (suc (number_at widths n)) (number_at widths n)
 counted_at c n widths = elim (cases_eq c n) [
   | inl same ↦ (let one : number_at widths c + 1 ≡ suc (number_at widths c) = omega arith in
       ap (number_at (counted c widths)) (sym same) ∙ with_at_same 0 widths c (number_at widths c + 1) ∙ one
