@@ -38,7 +38,7 @@ def races_of(program: Program, played: Played) -> tuple[str, bool]:
 def span_of(program: Program, played: Played) -> tuple[str, bool]:
     """How long a run had to take, and whether it has no race."""
     text = span.span(program, played)
-    return text, text.endswith("every schedule has this work and span\n")
+    return text, text.endswith("every schedule has this work and span, and this widest round\n")
 
 
 def with_ending(told: str | tuple[str, bool], played: Played) -> tuple[str, bool]:

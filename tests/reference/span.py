@@ -167,6 +167,6 @@ def span(program: Program, played: Played) -> str:
             *source_lines(program, steps),
             *phases(program, played, of),
             *waits(program, played, of),
-            "every schedule has this work and span\n" if free else "of this run alone\n",
+            "every schedule has this work and span, and this widest round\n" if free else "of this run alone\n",
         ]
     )

@@ -144,10 +144,10 @@ waits_text p waits = flat_map (wait_line_at p waits) (greatest_few 6 (rounds_wai
 
 -- ---- the text
 
--- Of which runs it holds: where there is no race, each run takes as many steps, and has this span (`work_for_all` and `span_for_all` of
--- `xk_law_work`).
+-- Of which runs it holds: where there is no race, each run takes as many steps, has this span, and as many steps in its widest round
+-- (`work_for_all`, `span_for_all` and `widths_for_all` of `xk_law_work`).
 abbrev pub scope_line : Bool → List ℕ
-scope_line true = codes "every schedule has this work and span\n"
+scope_line true = codes "every schedule has this work and span, and this widest round\n"
 scope_line false = codes "of this run alone\n"
 
 -- the first lines, by how many steps each round has

@@ -47,8 +47,8 @@ fn span(alloc: Global, places: &Places<'_>, ended: &Ended<'_>) -> Result<SpanRep
 /// How long a run of a source text's module had to take, whoever takes its steps: how many steps it took, how many of them had to come one
 /// after another, the steps of such a chain by stretches of an activity, with what each waited for, and the lines of the text that have the
 /// most of them. A step has to come behind an earlier one of its activity, the start of that, those by which others let the clock go that
-/// it passes, and those that end in the finish that it closes. Where the run has no race, every schedule has this work and span;
-/// else nothing is said of other runs. Of the stretches the first 200 are told, of the lines five.
+/// it passes, and those that end in the finish that it closes. Where the run has no race, every schedule has this work and span,
+/// and this widest round; else nothing is said of other runs. Of the stretches the first 200 are told, of the lines five.
 /// It takes time in proportion to the deeds of the run (its steps, those at clocks counted once for each clock) and to the lines of the
 /// text, and what `shown_races` of `xk_races` takes. Err where memory was refused.
 pub fn source_span(

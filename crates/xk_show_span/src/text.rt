@@ -145,7 +145,7 @@ fn scope_line(free: bool) -> &'static str
     ensures { result.now ≡ scope_line free }
 {
     if free {
-        "every schedule has this work and span\n"
+        "every schedule has this work and span, and this widest round\n"
     } else {
         "of this run alone\n"
     }
