@@ -6,3 +6,11 @@ use Rattle.xk_outcomes.proofs.run.Run.settle.Goals as goal
 
 pub loop-turn-init : goal.loop-turn-init
 loop-turn-init c = record { to = refl; leads = λ start f. f }
+
+pub returns-in-None-clause-to : goal.returns-in-None-clause-to
+returns-in-None-clause-to c =
+    let first = c.args.self.now.to in
+    let bound : c.steps-most.result ≡ steps_bound first.core.module_run =
+    c.steps-most.ensures ∙ ap steps_bound c.module.ensures.same ∙ ap (λ (x : FoundValue). steps_bound x.core.module_run) c.self.view_is in
+    settled_all first c.loop-turn.self.to c.loop-turn.turn (steps_bound first.core.module_run) (subst (λ n. c.loop-turn.turn ≤ n) bound c.loop-turn.auto.turn-end)
+    c.loop-turn.invariant.to (ap (λ (x : FoundValue). least_private x.core) (sym c.self-in-loop-turn.view_is) ∙ sym c.private_act.ensures ∙ c.in-None.is)
