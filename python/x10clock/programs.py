@@ -71,10 +71,12 @@ class Count:
 
 @dataclass(frozen=True)
 class Races:
-    """How many races a run has, and what is told of them."""
+    """How many races a run has, what is told of them as lines, and the same as an object (docs/FORMATS.md, "As
+    JSON")."""
 
     count: int
     text: str
+    told: dict[str, Any]
 
 
 def _words(command: str, program: Program, arguments: Sequence[int], *options: object, beside: str = "") -> list[str]:
@@ -197,11 +199,10 @@ def events(program: Program, log: Program, *arguments: int) -> list[dict[str, An
 
 def races(program: Program, *arguments: int, log: Program | None = None) -> Races:
     """The races of the run in the order `first`, or of the one that a log has."""
-    beside = "" if log is None else "log"
-    answer = _asked(_words("races", program, arguments, beside=beside), program, b"" if log is None else log)
-    text = answer.out.decode()
-    counted = next(line for line in text.splitlines() if line.startswith("races "))
-    return Races(int(counted.split()[1]), text)
+    beside, read = ("", b"") if log is None else ("log", log)
+    text = _asked(_words("races", program, arguments, beside=beside), program, read).out.decode()
+    told = _value(_asked(_words("races", program, arguments, "--json", beside=beside), program, read))
+    return Races(len(told["races"]), text, told)
 
 
 def where(program: Program, log: Program, *arguments: int, at: int | None = None) -> str:

@@ -424,8 +424,10 @@ class Comparer:
                 ["lanes", "--svg"],
                 ["lanes", "--path"],
                 ["lanes", "--svg", "--path"],
+                ["lanes", "--rounds"],
                 ["page"],
                 ["races"],
+                ["races", "--json"],
                 ["span"],
                 ["where"],
                 ["where", f"--at={step}"],
@@ -441,7 +443,9 @@ class Comparer:
                         is_picture="--svg" in flags,
                         at=step if flags and command == "where" else None,
                         step=of,
+                        is_json="--json" in flags,
                         has_path="--path" in flags,
+                        by_rounds="--rounds" in flags,
                     )
                 )
                 behind = (file.name, str(of)) if command == "why" else (file.name,)

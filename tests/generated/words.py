@@ -77,8 +77,8 @@ STRANGE = [
     "--", "-h", "--help", "help", "-", "", "-x", "-5", "-hx", "--module=x", "--help=x", "--modul", "--Module",
     "--orders", "--=", "---", "--version", "-V", "walk", "chek", "run", "check", "--no-module", "--log", "--order",
     "--workers", "--arg", "--seed", "--runs", "--limit", "--pick", "--sets", "--expect", "--from", "--to", "--at",
-    "--svg", "--path", "--outcome", "--processors", "outcome", "V9", "\udcff", "--log=\udcfe", "ü", "--ü", "a b", "=",
-    "@step.x10",
+    "--svg", "--path", "--rounds", "--outcome", "--processors", "outcome", "V9", "\udcff", "--log=\udcfe", "ü", "--ü",
+    "a b", "=", "@step.x10",
 ]  # fmt: skip
 
 
@@ -100,7 +100,7 @@ def options(rng: random.Random, command: str, text: str) -> Iterator[list[str]]:
     """Some options of a command, mostly such as could be meant with this text."""
     if command != "compile" and text.endswith(".json") != (rng.random() < 0.1):
         yield ["--module"]
-    tells_json = command in ("check", "explain", "run", "outcomes", "events")
+    tells_json = command in ("check", "explain", "run", "outcomes", "events", "races")
     if tells_json and rng.random() < (0.5 if command == "explain" else 0.3) or rng.random() < 0.02:
         yield ["--json"]
     if command == "run" and rng.random() < 0.4:
@@ -121,6 +121,8 @@ def options(rng: random.Random, command: str, text: str) -> Iterator[list[str]]:
         yield ["--svg"]
     if command == "lanes" and rng.random() < 0.3:
         yield ["--path"]
+    if command == "lanes" and rng.random() < 0.3:
+        yield ["--rounds"]
     if command == "outcomes" and rng.random() < 0.3:
         yield ["--sets"]
     if command == "outcomes" and rng.random() < (0.05 if is_held else 0.25):

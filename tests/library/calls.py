@@ -50,8 +50,8 @@ BROKEN = r"x10clock: ([FV])(\d+) \w+(?: unit (\d+))?(?: at (\d+)| over \d+)"
 # Words that are no job, or ask for help, and a word that is no text.
 ALONE = ((), ("--help",), ("run", "--help"), ("--version",), ("walk",), ("check",), ("explain", "V12"))
 PICTURES = (
-    ("chart",), ("events",), ("lanes",), ("lanes", "--svg"), ("lanes", "--path"), ("page",), ("where",),
-    ("where", "--at", "2")
+    ("chart",), ("events",), ("lanes",), ("lanes", "--svg"), ("lanes", "--path"), ("lanes", "--rounds"), ("page",),
+    ("where",), ("where", "--at", "2")
 )  # fmt: skip
 
 
@@ -101,6 +101,7 @@ def first_questions(text: bytes, form: tuple[str, ...]) -> Iterator[Question]:
     yield Question(("run", *form, "--order", "random", "--runs", "3", "mine"), text)
     yield Question(("run", *form, "--order", "ask", "--log", "log", "mine"), text, ANSWERS, by_hand=True)
     yield Question(("races", *form, "mine"), text)
+    yield Question(("races", "--json", *form, "mine"), text)
     yield Question(("outcomes", *form, "--limit", "50", "--log", "log", "mine"), text)
     yield Question(("outcomes", *form, "--limit", "50", "--expect", "beside", "mine"), text, LIST)
     yield Question(("outcomes", *form, "--limit", "50", "--count", "mine"), text)
@@ -113,6 +114,7 @@ def further_questions(text: bytes, form: tuple[str, ...], log: bytes) -> Iterato
     for command in ("replay", "races", "span"):
         yield Question((command, *form, "mine", "beside"), text, log)
         yield Question((command, *form, "mine", "beside"), text, log[: len(log) // 2])
+    yield Question(("races", "--json", *form, "mine", "beside"), text, log)
     yield Question(("why", *form, "mine", "beside", "2"), text, log)
 
 

@@ -93,6 +93,7 @@ def runs() -> None:
     want("page", x10clock.page(IN_STEP, run.log)[:15], b"<!DOCTYPE html>")
     want("races", x10clock.races(IN_STEP).count, 0)
     want("races of a log", x10clock.races(IN_STEP, log=run.log).count, 0)
+    want("every schedule", x10clock.races(IN_STEP).told["every_schedule"], True)
 
 
 def searches() -> None:

@@ -83,7 +83,8 @@ CALLS = [
         "run --order last --log LOG", "run --workers 1 --log LOG",
         "run --order greedy --log LOG", "run --order random --runs 4",
         "races", "outcomes", "outcomes --sets", "outcomes --count", "outcomes --log LOG", "outcomes --pick 2 --log LOG",
-        "check --json", "run --json", "run --json --log LOG", "outcomes --json", "outcomes --json --log LOG")),
+        "check --json", "run --json", "run --json --log LOG", "outcomes --json", "outcomes --json --log LOG",
+        "races --json")),
     *(
         Call(f"{command} --module -", MODULE)
         for command in ("check", "explain", "listing", "run --log LOG", "outcomes --log LOG")
@@ -92,7 +93,7 @@ CALLS = [
         Call(f"{command} - SECOND", IN_STEP, LOG)
         for command in (
             "replay", "chart", "events", "events --json", "lanes", "lanes --svg", "lanes --path", "lanes --svg --path",
-            "page", "where", "where --at 2", "races", "span")
+            "lanes --rounds", "page", "where", "where --at 2", "races", "races --json", "span")
     ),
     *(Call(f"{command} --module - SECOND", MODULE, LOG) for command in ("replay", "chart")),
     Call("where --at 99 - SECOND", IN_STEP, LOG, status=6),

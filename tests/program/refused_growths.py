@@ -287,11 +287,11 @@ def each_log(calls: Calls, folder: str) -> None:
         if charted.status:
             raise Wrong(f"{name}, chart: {charted}")
         for command in (
-            "events", "events --json", "lanes", "lanes --svg", "lanes --path", "lanes --svg --path", "page", "where",
-            "where --at 2", "where --at 999999", "races", "span"
+            "events", "events --json", "lanes", "lanes --svg", "lanes --path", "lanes --svg --path", "lanes --rounds",
+            "page", "where", "where --at 2", "where --at 999999", "races", "races --json", "span"
         ):  # fmt: skip
             told = calls.ask(f"{name}, {command}", [*command.split(), *words, "-", str(kept)], text)
-            if told.status not in ((0, 6) if command in ("races", "span") else (6,) if "999999" in command else (0,)):
+            if told.status not in ((0, 6) if command.split()[0] in ("races", "span") else (6,) if "999999" in command else (0,)):
                 raise Wrong(f"{name}, {command}: {told}")
             if not told.out:
                 raise Wrong(f"{name}, {command}: {told}")
@@ -303,7 +303,7 @@ def each_log(calls: Calls, folder: str) -> None:
     for log, line in (("zero-steps", "L1 Grammar line 2"), ("no-end", "L2 Truncated"),
                       ("waits", "L4 NotEnabled entry 3"), ("stops", "L5 NotEnded")):
         so_far = () if log == "stops" else ("events", "lanes", "page")
-        for command in ("replay", "chart", *so_far, "races", "span", "lanes --path"):
+        for command in ("replay", "chart", *so_far, "races", "races --json", "span", "lanes --path", "lanes --rounds"):
             err = f"x10clock: {line}\n".encode()
             calls.need(f"{command}, {log}", [*command.split(), "-", str(LOGS / f"{log}.log")], text, 3, b"", err)
         calls.need(f"why, {log}", ["why", "-", str(LOGS / f"{log}.log"), "1"], text, 3, b"", err)
@@ -352,6 +352,7 @@ def each_search(calls: Calls) -> None:
         calls.ask(f"{name}, by rounds, with a log", [*by_rounds, "--log", LOG, "-"], row.read_bytes())
         calls.ask(f"{name}, a tally", ["run", *given(row), "--order", "random", "--runs", "3", "-"], row.read_bytes())
         calls.ask(f"{name}, races", ["races", *given(row), "-"], row.read_bytes())
+        calls.ask(f"{name}, races as JSON", ["races", "--json", *given(row), "-"], row.read_bytes())
         calls.ask(
             f"{name}, outcomes without order",
             ["outcomes", *given(row), "--sets", "--limit", limit, "-"],

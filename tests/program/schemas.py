@@ -4,8 +4,8 @@
     python3 -m tests.program.schemas [--program PATH]
 
 Each text of the rows of tests/program/programs and each example is checked. Of those that are accepted, and whose runs
-are short, one in so many is run in some orders, with its events, also by a log that ends too early, and its outcomes,
-alone and against lists. Each answer fits its schema, has no key that isn't in it, and tells the numbers that the lines
+are short, one in so many is run in some orders, with its events, also by a log that ends too early, its races, and its
+outcomes, alone and against lists. Each answer fits its schema, has no key that isn't in it, and tells the numbers that the lines
 tell. An answer without a key that the schema wants doesn't fit, nor does one whose last number is a text.
 
 Wants Python's jsonschema (Debian's python3-jsonschema); where that lacks, the schemas are left out, and it says so.
@@ -121,14 +121,14 @@ class Asker:
 
     def __init__(self, program: pathlib.Path, work: pathlib.Path) -> None:
         self.program, self.work = program, work
-        self.schemas = {name: Schema(name) for name in ("check", "run", "outcomes", "expected", "events")}
+        self.schemas = {name: Schema(name) for name in ("check", "run", "outcomes", "expected", "events", "races")}
 
     def call(self, *words: object, given: bytes) -> tuple[int, str, str]:
         return harness.call([self.program, *words], given).texts()
 
-    def value(self, name: str, *words: object, given: bytes) -> Value:
-        """The one value that a command tells."""
-        _, out, err = self.call(*words, "--json", "-", given=given)
+    def value(self, name: str, *words: object, given: bytes, beside: tuple[object, ...] = ()) -> Value:
+        """The one value that a command tells, with the log beside the program where one is read."""
+        _, out, err = self.call(*words, "--json", "-", *beside, given=given)
         if out.count("\n") != 1:
             raise Wrong(f"{words} tells no value on one line: {out}{err}")
         return self.schemas[name].take(out.removesuffix("\n"))
@@ -158,6 +158,9 @@ class Asker:
         if told["printed"] != list(map(int, numbers)) or last != f"ended steps {told['steps']}{rounds}":
             raise Wrong("isn't what `run` prints")
         self.stepped(text, form, log)
+        self.raced(text, form, (log,))
+        if order == ORDERS[0]:
+            self.raced(text, form, ())
         head, *entries, _ = log.read_text().splitlines()
         some = entries[: len(entries) // 2]
         log.write_text("".join(f"{line}\n" for line in [head, *some, f"end {len(some)}"]))
@@ -174,6 +177,25 @@ class Asker:
             self.beside(value, line)
         if (status == 6) != any("ended" in value for value in values):
             raise Wrong("says otherwise than its status whether the log ends too early")
+
+    def raced(self, text: bytes, form: list[str], log: tuple[pathlib.Path, ...]) -> None:
+        """The races of a log, or of the run in the order `first`, beside their lines."""
+        status, out, _ = self.call("races", *form, "-", *log, given=text)
+        value = self.value("races", "races", *form, given=text, beside=log)
+        lines = out.splitlines()
+        accesses = [access for race in value["races"] for access in (race["first"], race["second"])]
+        if form:
+            words = [f"race shared {race['shared']}" for race in value["races"]]
+            told = [line.partition(":")[0] for line in lines if line.startswith("race ")]
+        else:
+            words = [f"race on {race['name']}" for race in value["races"]]
+            told = [line for line in lines if line.startswith("race ")]
+            for access, line in zip(accesses, (line for line in lines if line.startswith("step ")), strict=True):
+                self.beside(access, line)
+        if words != told or not out.endswith(value["text"]) or not value["text"].startswith(f"races {len(words)}"):
+            raise Wrong(f"tells {words} and {value['text']!r} where `races` tells {told}")
+        if (status == 6) == value["every_schedule"]:
+            raise Wrong("says otherwise than its status whether every schedule prints these numbers")
 
     def beside(self, value: Value, line: str) -> None:
         """Whether a value of a step tells what its line does."""

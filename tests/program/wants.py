@@ -133,6 +133,11 @@ def to_order(activities: int, deeds: int, races: int) -> int:
     return 8 * activities * (activities + deeds) + 450 * deeds + 300 * races + 800 * min(races, 10_000)
 
 
+def to_chain(steps: int) -> int:
+    """The longest chain up to each step, also of those that nobody else sees, and which deed comes right before it."""
+    return 270 * steps
+
+
 # The programs.
 
 
@@ -427,6 +432,20 @@ class Calls:
             yield self.logged(name, text)
             yield self.on_log(["races"], name, text, most)
 
+    def of_spans(self) -> Iterator[Call]:
+        """Somewhat more steps than a power of two, that nobody else sees, or at which a clock advances; many ends that
+        one finish waits for."""
+        phases = "for(i in 1..66500)Clock.advanceAll();"
+        for name, text, activities, deeds in (
+            ("133,000 turns", "def main(){for(i in 1..133000);Console.OUT.println(1);}", 1, 1),
+            ("133,000 advances", f"def main(){{clocked finish{{clocked async {phases}{phases}}}}}", 2, 133_000),
+            ("1,500 ends", "def main(){finish for(i in 1..1500)async;}", 1_501, 3_000),
+        ):
+            yield self.logged(name, text, 1)
+            steps, seen = judged(text).bounds.steps, 2 * deeds
+            yield self.on_log(["span"], name, text, to_order(activities, deeds, 0) + to_chain(steps))
+            yield self.on_log(["lanes", "--path"], name, text, to_lanes(seen) + to_chain(steps))
+
     def of_lists(self) -> Iterator[Call]:
         text, path = "def main(){Console.OUT.println(7);}", self.folder / "list"
         # Somewhat more than a power of two bytes, so that half of the room is empty.
@@ -475,6 +494,7 @@ def main() -> int:
             calls.of_tallies,
             calls.of_pictures,
             calls.of_races,
+            calls.of_spans,
             calls.of_lists,
         ):
             for call in kind():

@@ -39,7 +39,7 @@ MOST = {
     "scripts": 0,
     "files": 0,
     "unnamed": 0,
-    "ways": 13,
+    "ways": 14,
 }
 # `rt` sums up the files below a crate once for each way that leads to them in crates.txt: 200 ways are a second.
 MANY_WAYS = 1000

@@ -41,6 +41,7 @@ LIST_MISPLACED = "x10clock: --expect goes without --log and --pick"
 PICK_ALONE = "x10clock: --pick goes with --log"
 COUNT_MISPLACED = "x10clock: --count goes without --expect, --json, --log and --pick"
 JSON_MISPLACED = "x10clock: --json goes without --order ask and --runs"
+ROUNDS_MISPLACED = "x10clock: --rounds goes without --path, --svg, --from and --to"
 PAGE_UNCLEAR = "x10clock: page takes either LOG or --outcome, and --limit goes with --outcome"
 OVER_FILE = "x10clock: --log would write over FILE"
 OVER_ANSWERS = "x10clock: --log would write over FILE or standard input"
@@ -121,11 +122,11 @@ COMMANDS: dict[str, tuple[set[str], set[str], list[str]]] = {
     "listing": (set(), {"module"}, ["FILE"]),
     "run": ({"order", "seed", "runs", "processors", "workers", "log", "arg"}, {"module", "json"}, ["FILE"]),
     "outcomes": ({"limit", "pick", "log", "expect", "arg"}, {"module", "sets", "count", "json"}, ["FILE"]),
-    "races": ({"arg"}, {"module"}, ["FILE", "LOG" + MAYBE]),
+    "races": ({"arg"}, {"module", "json"}, ["FILE", "LOG" + MAYBE]),
     "replay": ({"arg"}, {"module"}, ["FILE", "LOG"]),
     "chart": ({"arg"}, {"module"}, ["FILE", "LOG"]),
     "events": ({"arg"}, {"module", "json"}, ["FILE", "LOG"]),
-    "lanes": ({"from", "to", "arg"}, {"module", "svg", "path"}, ["FILE", "LOG"]),
+    "lanes": ({"from", "to", "arg"}, {"module", "svg", "path", "rounds"}, ["FILE", "LOG"]),
     "page": ({"outcome", "limit", "from", "to", "arg"}, {"module"}, ["FILE", "LOG" + MAYBE]),
     "where": ({"at", "arg"}, {"module"}, ["FILE", "LOG"]),
     "span": ({"arg"}, {"module"}, ["FILE", "LOG"]),
@@ -323,6 +324,8 @@ def read(words: list[str]) -> Job:
             raise Mistake(PAGE_UNCLEAR)
         if "json" in job.flags and (job.values.get("order") == ASK or "runs" in job.values):
             raise Mistake(JSON_MISPLACED)
+        if "rounds" in job.flags and ({"path", "svg"} & job.flags or {"from", "to"} & {*job.values}):
+            raise Mistake(ROUNDS_MISPLACED)
         if first == "check" and "json" in job.flags:
             job.command = "explain"
         return job
@@ -581,6 +584,7 @@ def answered(job: Job, data: bytes, given: BinaryIO, log_in: BinaryIO | None, lo
         int(job.values.get("STEP", "1")),
         "json" in job.flags,
         "path" in job.flags,
+        "rounds" in job.flags,
     )
     return Told(status, out, err.removesuffix("\n"))
 

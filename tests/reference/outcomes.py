@@ -330,8 +330,8 @@ def faults(walk: Walk | None, module: Module, arguments: Arguments, asked: Asked
     if len(lists) > asked.most:
         yield "more are told than the limit says"
     plain = asked.plain(module, arguments)
-    if is_complete and not asked.sets and lists != [*plain, *sorted({*lists}.difference(plain))]:
-        yield "what is told behind the runs before any search doesn't rise"
+    if not asked.sets and lists != [*plain, *sorted({*lists}.difference(plain))]:
+        yield "the runs before any search aren't first, or what is told behind them doesn't rise"
     lacking = set() if is_complete else {*plain} - {*lists}
     if lacking:
         yield f"a run before any search prints {sorted(lacking)}"
@@ -350,8 +350,12 @@ def against_walk(walk: Walk, asked: Asked, told: set[Numbers], is_complete: bool
         yield f"no run prints {sorted(told - outcomes)}"
     if is_complete and outcomes - told:
         yield f"left out: {sorted(outcomes - told)}"
-    if not is_complete and len(told) < asked.limit and SPARE * asked.worlds(walk) <= asked.limit:
+    are_few = SPARE * asked.worlds(walk) <= asked.limit
+    if not is_complete and len(told) < asked.limit and are_few:
         yield f"not complete, and there are {asked.worlds(walk)} worlds"
+    rest = sorted(told.difference(asked.plain(walk.module, walk.arguments)))
+    if not asked.sets and are_few and rest != sorted(outcomes - told | {*rest})[: len(rest)]:
+        yield "one that isn't told comes before one that is, behind the runs before any search"
 
 
 def log_faults(module: Module, arguments: Arguments, asked: Asked, picked: list[Numbers], log: bytes) -> Iterator[str]:

@@ -133,6 +133,16 @@ def print_words(program: Program, played: Played, past: dict[int, int]) -> str:
     return IN_ORDER
 
 
+def closing(program: Program, played: Played, past: dict[int, int], count: int) -> str:
+    """What is told behind so many races: how many, and of which runs that holds."""
+    if count:
+        counted = f"{count}" if count <= SHOWN else f"{SHOWN} and more"
+        return f"races {counted}\nof this run alone\n"
+    prints = print_words(program, played, past)
+    order = " in this order" if prints == IN_ORDER else ""
+    return f"races 0\n{prints}every schedule prints these numbers{order}\n"
+
+
 def numbered(program: Program, number: int, first: Taken, second: Taken) -> str:
     """A race of a module's run, on a line."""
     one, other = (f"{step_words(program, taken)} {events.words(taken)}" for taken in (first, second))
@@ -153,11 +163,6 @@ def named(naming: Naming, number: int, first: Taken, second: Taken) -> str:
 def races(program: Program, played: Played) -> str:
     past = pasts(played)
     pairs = list(found(played, past))
-    if pairs:
-        naming = None if program.is_module else Naming(program, played)
-        told = (named(naming, *pair) if naming else numbered(program, *pair) for pair in pairs[:SHOWN])
-        count = f"{len(pairs)}" if len(pairs) <= SHOWN else f"{SHOWN} and more"
-        return "".join(told) + f"races {count}\n" + "of this run alone\n"
-    prints = print_words(program, played, past)
-    order = " in this order" if prints == IN_ORDER else ""
-    return f"races 0\n{prints}every schedule prints these numbers{order}\n"
+    naming = Naming(program, played) if pairs and not program.is_module else None
+    told = (named(naming, *pair) if naming else numbered(program, *pair) for pair in pairs[:SHOWN])
+    return "".join(told) + closing(program, played, past, len(pairs))

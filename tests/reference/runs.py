@@ -1,9 +1,9 @@
 #!/usr/bin/env python3
-"""The reference for commands on a log: `replay`, `chart`, `races`, `span`, `why` and `lanes --path` of a whole run,
-`events`, `lanes` and `page` of one that may go on, too, and `where` of any log.
+"""The reference for commands on a log: `replay`, `chart`, `races`, `span`, `why`, `lanes --path` and `lanes --rounds`
+of a whole run, `events`, `lanes` and `page` of one that may go on, too, and `where` of any log.
 
     python3 -m tests.reference.runs events [--module] FILE LOG [--arg=N]..
-    python3 -m tests.reference.runs lanes [--module] [--svg] [--path] FILE LOG [--arg=N]..
+    python3 -m tests.reference.runs lanes [--module] [--svg] [--path] [--rounds] FILE LOG [--arg=N]..
     python3 -m tests.reference.runs why [--module] --step=STEP FILE LOG [--arg=N]..
 """
 
@@ -13,7 +13,8 @@ import pathlib
 import sys
 from functools import partial
 
-from tests.reference import lanes, logs, modules, naming, page, path, picture, races, source, span, values, where, why
+from tests.reference import lanes, logs, modules, naming, page, path, picture, races, rounds, source, span, values
+from tests.reference import where, why
 from tests.reference.events import Program
 from tests.reference.lanes import WHOLE
 from tests.reference.logs import Answer, Played, Teller
@@ -55,8 +56,11 @@ def teller(
     step: int = 1,
     is_json: bool = False,
     has_path: bool = False,
+    by_rounds: bool = False,
 ) -> Teller:
     """What a command prints of a run of this program, whose bytes are looked at where there is one."""
+    if by_rounds:
+        return partial(rounds.drawing, program)
     if has_path:
         draw = path.picture_drawing if is_picture else path.drawing
         return lambda played: draw(program, played, window)
@@ -69,6 +73,8 @@ def teller(
         return lambda played: values.steps(program, played)
     if command == "events":
         return lambda played: with_ending(naming.text(program, played), played)
+    if command == "races" and is_json:
+        return lambda played: values.racing(program, played)
     of_program = {"races": races_of, "span": span_of, "why": partial(why.why, step=step)}
     if command in of_program:
         return partial(of_program[command], program)
@@ -94,14 +100,15 @@ def answer(
     step: int = 1,
     is_json: bool = False,
     has_path: bool = False,
+    by_rounds: bool = False,
 ) -> Answer:
     """What a command answers of a log and this program."""
     if isinstance(judged, Refused):
         return 1, "", f"{note(command, program)}x10clock: {judged.line}\n"
     if command == WHERE:
         return where.answer(program, judged, log, arguments, at)
-    played_by = logs.carry_out if command in SO_FAR and not has_path else logs.replay
-    tell = teller(command, program, window, is_picture, step, is_json, has_path)
+    played_by = logs.carry_out if command in SO_FAR and not has_path and not by_rounds else logs.replay
+    tell = teller(command, program, window, is_picture, step, is_json, has_path, by_rounds)
     return logs.answer(judged, log, tell, arguments, played_by)
 
 
@@ -122,6 +129,7 @@ def main(words: list[str]) -> int:
         step=steps[-1] if steps else 1,
         is_json="--json" in flags,
         has_path="--path" in flags,
+        by_rounds="--rounds" in flags,
     )
     sys.stdout.write(out)
     sys.stderr.write(err)

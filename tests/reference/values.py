@@ -1,11 +1,11 @@
 """The reference for what is told as JSON, from docs/FORMATS.md, "As JSON": what a run printed, what a program can
-print, what that says of a list, and what others see of the steps of a run."""
+print, what that says of a list, what others see of the steps of a run, and its races."""
 
 from __future__ import annotations
 
 import json
 
-from tests.reference import events
+from tests.reference import events, races
 from tests.reference.events import Program
 from tests.reference.explain import position
 from tests.reference.explain_json import Members, line_of
@@ -94,3 +94,16 @@ def steps(program: Program, played: Played) -> tuple[str, bool]:
     if not ending:
         return text, True
     return text + line_of({"ended": False, "steps": len(played.taken), "text": ending}), False
+
+
+def racing(program: Program, played: Played) -> tuple[str, bool]:
+    """The races of a run, each by the values of its two steps, and whether it has none; then the lines behind them."""
+    past, teller = races.pasts(played), Teller(program, played)
+    pairs = list(races.found(played, past))
+    told = [
+        {"first": teller.value(first), "second": teller.value(second), "shared": number}
+        | teller.name("" if program.is_module else teller.naming.shared[number])
+        for number, first, second in pairs[: races.SHOWN]
+    ]
+    text = races.closing(program, played, past, len(pairs))
+    return line_of({"every_schedule": not pairs, "races": told, "text": text}), not pairs

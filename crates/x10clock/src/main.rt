@@ -534,6 +534,7 @@ fn is_left_open(command: &Command<'_>) -> bool
         | Command::Listing
         | Command::Events { .. }
         | Command::Lanes { .. }
+        | Command::Rounds { .. }
         | Command::Page { .. }
         | Command::OutcomePage { .. }
         | Command::Where { .. }

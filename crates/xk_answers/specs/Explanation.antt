@@ -33,9 +33,11 @@ use Rattle.xk_show_picture.specs.Picture.{is_drawn, named_picture_text, picture_
 use Rattle.xk_show_page.specs.Page.{named_page_text, page_text}
 use Rattle.xk_show_path.specs.declared.forms.PathForm.{PathForm}
 use Rattle.xk_show_path.specs.Forms.{is_path_whole, path_text}
+use Rattle.xk_show_rounds.specs.RoundLanes.{round_lanes_text}
 use Rattle.xk_races.specs.Races.{is_race_free}
 use Rattle.xk_races.specs.Text.{races_text}
 use Rattle.xk_show_races.specs.Text.{named_races_text}
+use Rattle.xk_races_json.specs.Races.{module_races_value, source_races_value}
 use Rattle.xk_show_span.specs.Text.{span_text}
 use Rattle.xk_show_where.specs.Where.{are_steps_legal, named_where_text, where_text}
 use Rattle.xk_why.specs.Lines.{why_text}
@@ -221,6 +223,14 @@ abbrev pub path_told : PathForm → List ℕ → Window → ModuleValue → List
 path_told form text window m log last shared origins =
     (path_of form text shared window m log last origins, is_path_whole form window m log last)
 
+-- the same by rounds: a row for each, in place of each step
+abbrev pub rounds_by : List ℕ → List (List ℕ) → ModuleValue → List Entry → World → Option (List UnitOrigins) → List ℕ
+rounds_by text shared m log last None = round_lanes_text no_text None m log last
+rounds_by text shared m log last (Some origins) = round_lanes_text (places_in text (Some origins)) (Some shared) m log last
+
+abbrev pub rounds_told : List ℕ → ModuleValue → List Entry → World → List (List ℕ) → Option (List UnitOrigins) → Tale
+rounds_told text m log last shared origins = (rounds_by text shared m log last origins, are_lanes_whole last)
+
 -- how long it had to take, and what takes longest
 abbrev pub span_told : List ℕ → ModuleValue → List ℤ → List Entry → Option (List UnitOrigins) → Tale
 span_told text m args log origins = (span_text (places_in text origins) m args log, is_race_free m args log)
@@ -243,13 +253,23 @@ abbrev pub why_told : List ℕ → ℕ → ModuleValue → List ℤ → List Ent
 why_told text step m args log shared origins =
     if is_told m args log step then all_told (why_of text step shared m args log origins) else untold step log
 
--- its races; of a source text by names, where its shared numbers have these, and with values
-abbrev pub races_of : List ℕ → List (List ℕ) → ModuleValue → List ℤ → List Entry → Option (List UnitOrigins) → List ℕ
-races_of text shared m args log None = races_text no_text m args log
-races_of text shared m args log (Some origins) = named_races_text (places_in text (Some origins)) shared m args log
+-- the races of a module's run, as a text, or as a JSON value on a line
+abbrev pub plain_races : Bool → ModuleValue → List ℤ → List Entry → List ℕ
+plain_races false m args log = races_text no_text m args log
+plain_races true m args log = json_line (module_races_value m args log)
 
-abbrev pub races_told : List ℕ → ModuleValue → List ℤ → List Entry → List (List ℕ) → Option (List UnitOrigins) → Tale
-races_told text m args log shared origins = (races_of text shared m args log origins, is_race_free m args log)
+-- the same of a source text by names, where its shared numbers have these, and with values
+abbrev pub named_races : Bool → PlacesValue → List (List ℕ) → ModuleValue → List ℤ → List Entry → List ℕ
+named_races false p shared m args log = named_races_text p shared m args log
+named_races true p shared m args log = json_line (source_races_value p shared m args log)
+
+-- the races of a run
+abbrev pub races_of : Bool → List ℕ → List (List ℕ) → ModuleValue → List ℤ → List Entry → Option (List UnitOrigins) → List ℕ
+races_of json text shared m args log None = plain_races json m args log
+races_of json text shared m args log (Some origins) = named_races json (places_in text (Some origins)) shared m args log
+
+abbrev pub races_told : Bool → List ℕ → ModuleValue → List ℤ → List Entry → List (List ℕ) → Option (List UnitOrigins) → Tale
+races_told json text m args log shared origins = (races_of json text shared m args log origins, is_race_free m args log)
 
 -- how things stand behind the steps of a log, as far as they can be taken; of a source text by names, where its shared numbers have these
 abbrev pub standings_of : List ℕ → List (List ℕ) → ModuleValue → List ℤ → List Entry → Option (List UnitOrigins) → List ℕ

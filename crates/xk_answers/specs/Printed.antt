@@ -3,8 +3,8 @@ use Rattle.std.specs.Prelude.{ℕ, Bool, List, [], Option, Some, None, string_by
 use Rattle.xk_jobs.specs.Status.{status_done, status_partial, status_refuted}
 use Rattle.xk_answers.specs.declared.job_result.Done.{Done}
 use Rattle.xk_answers.specs.declared.job_result.Done.TheVariants as done
-use Rattle.xk_outcomes.specs.declared.holding.Verdict.{Verdict}
-use Rattle.xk_outcomes.specs.declared.holding.Verdict.TheVariants as verdict
+use Rattle.xk_outcome_lists.specs.declared.holding.Verdict.{Verdict}
+use Rattle.xk_outcome_lists.specs.declared.holding.Verdict.TheVariants as verdict
 use Rattle.xk_log.specs.LogText.{log_text}
 use Rattle.xk_messages.specs.Lines.{accepted_line, ended_line, rounds_line}
 use Rattle.xk_io.specs.Lines.{number_lines}

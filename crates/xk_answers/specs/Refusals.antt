@@ -8,7 +8,7 @@ use Rattle.xk_program.specs.declared.fault.Fault.{Fault}
 use Rattle.xk_program.specs.declared.fault.Fault.TheVariants as fault
 use Rattle.xk_log.specs.SomeBytes.{OfSome}
 use Rattle.xk_log.specs.Verdicts.{IsTruncated, IsWrongAt}
-use Rattle.xk_outcomes.specs.Expected.{stray_line}
+use Rattle.xk_outcome_lists.specs.Expected.{stray_line}
 use Rattle.xk_answers.specs.declared.picture.Picture.{Picture}
 use Rattle.xk_answers.specs.Results.{IsNoRun, is_of_whole, list_in}
 use Rattle.xk_program.specs.Refusals.{IsNotRun, IsRefusal}

@@ -30,12 +30,12 @@ use Rattle.xk_outcomes.specs.Sets.{AreAllAs, AreDistinctAs, AreShownAs}
 use Rattle.xk_outcomes.specs.declared.listing.Outcome.{Outcome}
 use Rattle.xk_outcomes.specs.LoneOutcomes.{IsOneOfManyAs}
 use Rattle.xk_outcomes.specs.PlainRuns.{ArePlainListedAs}
-use Rattle.xk_outcomes.specs.Text.{completeness, outcomes_text}
+use Rattle.xk_outcome_lists.specs.Text.{completeness, outcomes_text}
 use Rattle.xk_outcomes.specs.declared.all_outcomes.Limit.{Limit}
 use Rattle.xk_outcomes.specs.Limits.{GoesFar, limit_of}
-use Rattle.xk_outcomes.specs.Expected.{AreExpected}
-use Rattle.xk_outcomes.specs.declared.holding.Verdict.{Verdict}
-use Rattle.xk_outcomes.specs.declared.holding.Verdict.TheVariants as verdict
+use Rattle.xk_outcome_lists.specs.Expected.{AreExpected}
+use Rattle.xk_outcome_lists.specs.declared.holding.Verdict.{Verdict}
+use Rattle.xk_outcome_lists.specs.declared.holding.Verdict.TheVariants as verdict
 use Rattle.xk_outcome_count.specs.Counts.{AreAsMany, AreAtLeast, GoesAsFar}
 use Rattle.xk_outcome_count.specs.Text.{count_line}
 use Rattle.xk_outcome_count.specs.declared.counting.Counted.{Counted}
@@ -49,7 +49,7 @@ use Rattle.xk_program.specs.Origins.{IsByNames, IsByOrigins}
 use Rattle.xk_hints.specs.Words.{HintValue}
 use Rattle.xk_answers.specs.Explanation.{HaveHints, IsProgramListed, Tale, acceptance_told, all_told, event_values_so_far}
 use Rattle.xk_answers.specs.Explanation.{events_so_far, image_so_far}
-use Rattle.xk_answers.specs.Explanation.{lanes_so_far, page_so_far, path_told, races_told, span_told, where_told, why_told}
+use Rattle.xk_answers.specs.Explanation.{lanes_so_far, page_so_far, path_told, races_told, rounds_told, span_told, where_told, why_told}
 
 -- what is told as one JSON value: a run in an order, by rounds, or by workers, whose log is kept or not; outcomes, of which so many are
 -- looked for, and of one the log is kept or not; or what outcomes say of a list
@@ -58,7 +58,7 @@ pub data Shown : Type 0 where
   OutcomesShown : Bool → Option ℕ → ℕ → Bool → Shown
   ExpectedShown : Bool → Option ℕ → Shown
 
--- what is to be done with a module; what is explained is a JSON value or not; a run is in an order, by rounds, or by workers, and has its log kept or not; some
+-- what is to be done with a module; what is explained is a JSON value or not, and so are races; a run is in an order, by rounds, or by workers, and has its log kept or not; some
 -- picture is drawn of one; it is told how things stand behind a log, or behind so many of its steps, which races the run in the order `first` has, or how often so many runs by chance,
 -- from this seed on, print what; of outcomes, as lists of numbers or without their order, so many are looked for, and of one, counted from 1, the log
 -- is kept or not, or they are counted, or held against a list, or of one the page of its run is made; or some of this is told as one JSON value
@@ -71,7 +71,7 @@ pub data Doing : Type 0 where
   Replay : Doing
   Draw : Picture → Doing
   Where : Option ℕ → Doing
-  Races : Doing
+  Races : Bool → Doing
   Tally : ℕ → ℕ → Doing
   Outcomes : Bool → Option ℕ → ℕ → Bool → Doing
   Count : Bool → Option ℕ → Doing
@@ -254,8 +254,8 @@ ComesTo (Json s) m args logged d = IsAccepted m × IsShown s m args logged d
 ComesTo _ m args logged _ = ⊥
 
 -- What is told of a run of the module that the bytes give, by their lines where they are a source text: its chart; by their names, too,
--- what others see of its steps, also as JSON values, the same with a lane for each activity, also as an image, with a critical path, or as a
--- page, its races, and what a step rests on; or how long it had to take.
+-- what others see of its steps, also as JSON values, the same with a lane for each activity, also as an image, with a critical path, by
+-- rounds, or as a page, its races, and what a step rests on; or how long it had to take.
 abbrev pub IsPicture : Picture → Form → List ℕ → List ℕ → ModuleValue → List ℤ → List Entry → World → Tale → Type 0
 IsPicture picture.Chart kind file bytes m args es last told = told ≡ all_told (chart_text m args es)
 IsPicture picture.Events kind file bytes m args es last told = IsByNames kind bytes (events_so_far bytes m args es last) told
@@ -263,8 +263,9 @@ IsPicture picture.EventValues kind file bytes m args es last told = IsByNames ki
 IsPicture (picture.Lanes window) kind file bytes m args es last told = IsByNames kind bytes (lanes_so_far bytes window m es last) told
 IsPicture (picture.Image window) kind file bytes m args es last told = IsByNames kind bytes (image_so_far bytes window m es last) told
 IsPicture (picture.Path form window) kind file bytes m args es last told = IsByNames kind bytes (path_told form bytes window m es last) told
+IsPicture picture.Rounds kind file bytes m args es last told = IsByNames kind bytes (rounds_told bytes m es last) told
 IsPicture (picture.Page window) kind file bytes m args es last told = IsByNames kind bytes (page_so_far file bytes window m es last) told
-IsPicture picture.Races kind file bytes m args es last told = IsByNames kind bytes (races_told bytes m args es) told
+IsPicture (picture.Races json) kind file bytes m args es last told = IsByNames kind bytes (races_told json bytes m args es) told
 IsPicture picture.Span kind file bytes m args es last told = IsByOrigins kind bytes (span_told bytes m args es) told
 IsPicture (picture.Why step) kind file bytes m args es last told = IsByNames kind bytes (why_told bytes step m args es) told
 
@@ -291,8 +292,9 @@ picture_told picture.EventValues file bytes shared m args es last origins = even
 picture_told (picture.Lanes window) file bytes shared m args es last origins = lanes_so_far bytes window m es last shared origins
 picture_told (picture.Image window) file bytes shared m args es last origins = image_so_far bytes window m es last shared origins
 picture_told (picture.Path form window) file bytes shared m args es last origins = path_told form bytes window m es last shared origins
+picture_told picture.Rounds file bytes shared m args es last origins = rounds_told bytes m es last shared origins
 picture_told (picture.Page window) file bytes shared m args es last origins = page_so_far file bytes window m es last shared origins
-picture_told picture.Races file bytes shared m args es last origins = races_told bytes m args es shared origins
+picture_told (picture.Races json) file bytes shared m args es last origins = races_told json bytes m args es shared origins
 picture_told picture.Span file bytes shared m args es last origins = span_told bytes m args es origins
 picture_told (picture.Why step) file bytes shared m args es last origins = why_told bytes step m args es shared origins
 
@@ -303,9 +305,9 @@ IsWhereabouts at kind bytes m args logged told =
     AreArguments m args × ((es : List Entry) × IsLogText logged es × IsByNames kind bytes (where_told bytes m args at es) told)
 
 -- the races of the run in the order `first` are told
-abbrev pub AreFirstRaces : Form → List ℕ → ModuleValue → List ℤ → Tale → Type 0
-AreFirstRaces kind bytes m args told = (numbers : List ℤ) × (steps : ℕ) × (es : List Entry) × IsLoggedRun order.First m args numbers steps es
-    × IsByNames kind bytes (races_told bytes m args es) told
+abbrev pub AreFirstRaces : Bool → Form → List ℕ → ModuleValue → List ℤ → Tale → Type 0
+AreFirstRaces json kind bytes m args told = (numbers : List ℤ) × (steps : ℕ) × (es : List Entry) × IsLoggedRun order.First m args numbers steps es
+    × IsByNames kind bytes (races_told json bytes m args es) told
 
 -- What a module can print is looked for up to this limit, and this is the log of the outcome of a number, if it is there; so many outcomes are, which
 -- are all or not.
@@ -352,7 +354,7 @@ IsTelling Listing kind file bytes m args logged told = IsProgramListed kind byte
 IsTelling (Draw picture) kind file bytes m args logged told =
     IsAccepted m × OfRun (is_of_whole picture) m args logged (λ es last. IsPicture picture kind file bytes m args es last told)
 IsTelling (Where at) kind file bytes m args logged told = IsAccepted m × IsWhereabouts at kind bytes m args logged told
-IsTelling Races kind file bytes m args logged told = IsAccepted m × AreFirstRaces kind bytes m args told
+IsTelling (Races json) kind file bytes m args logged told = IsAccepted m × AreFirstRaces json kind bytes m args told
 IsTelling (Tally seed runs) kind file bytes m args logged told = IsAccepted m × AreArguments m args × IsTallied m args seed runs told
 IsTelling (OutcomePage window limit pick) kind file bytes m args logged told =
     IsAccepted m × IsOutcomePage window (limit_of limit (activities_bound m)) pick kind file bytes m args told

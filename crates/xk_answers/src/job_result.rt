@@ -16,7 +16,7 @@ use std::alloc::{AllocError, Global};
 use xk_io::{Device, write_all, write_numbers};
 use xk_jobs::status;
 use xk_messages::{accepted_line, ended_line, rounds_line};
-use xk_outcomes::Verdict;
+use xk_outcome_lists::Verdict;
 use xk_types::{Entry, Sink};
 
 /// What a job comes to where nothing stands against it.

@@ -9,7 +9,11 @@ ghost use Rattle.xk_jobs.specs.declared.job.Form.{Form as FormValue};
 ghost use Rattle.xk_answers.specs.Results.{Draw, IsTelling, IsText, is_of_whole, lanes_given, picture_told, shows_origins, window_given};
 ghost use Rattle.xk_answers.specs.Refusals.{AgainstModule, AgainstRun, MayStand};
 ghost use Rattle.xk_program.specs.Origins.{IsFrom};
-ghost use Rattle.xk_answers.specs.Explanation.{events_told, image_told, lanes_told, page_told, path_told, races_told, span_told};
+ghost use Rattle.xk_answers.specs.Explanation.{events_told, image_told, lanes_told, named_races, page_told, path_told};
+ghost use Rattle.xk_answers.specs.Explanation.{races_told, plain_races};
+ghost use Rattle.xk_answers.specs.Explanation.{rounds_told, span_told};
+ghost use Rattle.xk_races.specs.Races.{is_race_free};
+ghost use Rattle.xk_show_events.specs.Events.{places_of};
 ghost use Rattle.xk_program.specs.Lines.{status_of};
 
 use crate::event_values::event_values_so_far;
@@ -20,7 +24,8 @@ use crate::so_far::{events_so_far, image_so_far, lanes_so_far, page_so_far};
 use std::alloc::{AllocError, Global};
 use xk_bounds::Verified;
 use xk_program::{Fault, Program, Provenance, runnable};
-use xk_races::module_races;
+use xk_races::{RaceReport, module_races};
+use xk_races_json::{module_race_values, source_race_values};
 use xk_replay::chart;
 use xk_scheduler::Ended;
 use xk_show_events::{LegalRun, module_events};
@@ -30,6 +35,7 @@ use xk_show_page::{module_page, source_page};
 use xk_show_path::{PathForm, form_of, module_path, source_path};
 use xk_show_picture::{module_picture, source_picture};
 use xk_show_races::source_races;
+use xk_show_rounds::{module_rounds, source_rounds};
 use xk_show_span::{module_span, source_span};
 use xk_types::Source;
 use xk_unit_origins::UnitOrigins;
@@ -49,10 +55,12 @@ pub enum Picture {
     Image(Window),
     /// The same in this form, with the rounds of steps and a critical path.
     Path(PathForm, Window),
+    /// The same by rounds: a row for each, in place of each step.
+    Rounds,
     /// The same as a page that goes through it step by step.
     Page(Window),
-    /// Its races.
-    Races,
+    /// Its races, also as a JSON value.
+    Races(bool),
     /// How long it had to take.
     Span,
     /// What this step of it rests on.
@@ -70,7 +78,7 @@ impl Picture {
             | Picture::Lanes(_)
             | Picture::Image(_)
             | Picture::Page(_) => false,
-            Picture::Path(..) | Picture::Chart | Picture::Races => true,
+            Picture::Path(..) | Picture::Rounds | Picture::Chart | Picture::Races(_) => true,
             Picture::Span | Picture::Why(_) => true,
         }
     }
@@ -78,9 +86,11 @@ impl Picture {
 
 /// What is told, and whether that is a whole answer.
 #[derive(Drop)]
-pub(crate) struct Tale {
-    pub(crate) text: Vec<u8>,
-    pub(crate) whole: bool,
+pub struct Tale {
+    /// Its text.
+    pub text: Vec<u8>,
+    /// Whether that is a whole answer.
+    pub whole: bool,
 }
 
 /// The steps from one to another, each of which may be left out.
@@ -219,9 +229,10 @@ fn whole_told(
             text: chart(alloc, ended)?.into_bytes(),
             whole: true,
         }),
-        Picture::Races => races_of(alloc, from, ended),
+        Picture::Races(json) => races_of(alloc, json, from, ended),
         Picture::Span => span_of(alloc, from, ended),
         Picture::Path(form, window) => path_of(alloc, from, ended, form, window),
+        Picture::Rounds => rounds_of(alloc, from, ended),
         Picture::Why(step) => reasons_of(alloc, from, ended, step),
         Picture::Events => unreachable!(),
         Picture::EventValues => unreachable!(),
@@ -253,8 +264,9 @@ fn so_far_told(
         Picture::Image(window) => image_so_far(alloc, from, legal, window),
         Picture::Page(window) => page_so_far(alloc, file, from, legal, window),
         Picture::Path(..) => unreachable!(),
+        Picture::Rounds => unreachable!(),
         Picture::Chart => unreachable!(),
-        Picture::Races => unreachable!(),
+        Picture::Races(_) => unreachable!(),
         Picture::Span => unreachable!(),
         Picture::Why(_) => unreachable!(),
     }
@@ -414,6 +426,30 @@ fn path_of(
     }
 }
 
+/// The same by rounds: a row for each, in place of each step.
+fn rounds_of(alloc: Global, from: &Provenance<'_>, ended: &Ended<'_>) -> Result<Tale, AllocError>
+    ensures { IfOk result (λ tale. (tale.text.items, tale.whole)
+        ≡ rounds_told from.now.text.now ended.now.module.now ended.now.log.items
+        ended.now.core.world (map (λ x. x.now) from.now.shared.items) from.now.origins) }
+{
+    match &from.origins {
+        Some(origins) => {
+            let drawing = source_rounds(alloc, from.text, origins.units(), &from.shared, ended)?;
+            Ok(Tale {
+                text: drawing.text,
+                whole: drawing.whole,
+            })
+        }
+        None => {
+            let drawing = module_rounds(alloc, ended)?;
+            Ok(Tale {
+                text: drawing.text,
+                whole: drawing.whole,
+            })
+        }
+    }
+}
+
 /// The same as a page.
 pub(crate) fn page_of(
     alloc: Global,
@@ -458,46 +494,95 @@ fn named_page_of(
     })
 }
 
-/// The races of a run that came to its end; of a source text by names, and with values.
+/// The races of a run that came to its end, as a text or as a JSON value; of a source text by names, and with values.
 pub(crate) fn races_of(
     alloc: Global,
+    json: bool,
     from: &Provenance<'_>,
     ended: &Ended<'_>,
 ) -> Result<Tale, AllocError>
     ensures { IfOk result (λ tale. (tale.text.items, tale.whole)
-        ≡ races_told from.now.text.now ended.now.module.now
+        ≡ races_told json from.now.text.now ended.now.module.now
         ended.now.core.world.arguments ended.now.log.items
         (map (λ x. x.now) from.now.shared.items) from.now.origins) }
 {
     match &from.origins {
-        Some(origins) => named_races_of(alloc, from, origins.units(), ended),
-        None => {
-            let report = module_races(alloc, ended)?;
-            Ok(Tale {
-                text: report.text,
-                whole: report.free,
-            })
-        }
+        Some(origins) => named_races_of(alloc, json, from, origins.units(), ended),
+        None => module_races_of(alloc, json, from, ended),
     }
 }
 
 /// The same of a source text whose units have these origins.
 fn named_races_of(
     alloc: Global,
+    json: bool,
     from: &Provenance<'_>,
     units: &[UnitOrigins<'_>],
     ended: &Ended<'_>,
 ) -> Result<Tale, AllocError>
     ensures { IfOk result (λ tale. (tale.text.items, tale.whole)
-        ≡ races_told from.now.text.now ended.now.module.now
+        ≡ races_told json from.now.text.now ended.now.module.now
         ended.now.core.world.arguments ended.now.log.items
         (map (λ x. x.now) from.now.shared.items) (Some units.now)) }
 {
-    let report = source_races(alloc, from.text, units, &from.shared, ended)?;
+    let report = source_report(alloc, json, from.text, units, &from.shared, ended)?;
     Ok(Tale {
         text: report.text,
         whole: report.free,
     })
+}
+
+/// The same of a module that is given as such.
+fn module_races_of(
+    alloc: Global,
+    json: bool,
+    from: &Provenance<'_>,
+    ended: &Ended<'_>,
+) -> Result<Tale, AllocError>
+    ensures { IfOk result (λ tale. (tale.text.items, tale.whole)
+        ≡ races_told json from.now.text.now ended.now.module.now
+        ended.now.core.world.arguments ended.now.log.items
+        (map (λ x. x.now) from.now.shared.items) None) }
+{
+    let report = module_report(alloc, json, ended)?;
+    Ok(Tale {
+        text: report.text,
+        whole: report.free,
+    })
+}
+
+/// The races of a run of a source text's module, whose shared numbers have these names.
+fn source_report(
+    alloc: Global,
+    json: bool,
+    text: &[u8],
+    units: &[UnitOrigins<'_>],
+    shared: &[&[u8]],
+    ended: &Ended<'_>,
+) -> Result<RaceReport, AllocError>
+    ensures text { IfOk result (λ r. r.text.items ≡ named_races json
+        (places_of text.now units.now) (map (λ x. x.now) shared.now)
+        ended.now.module.now ended.now.core.world.arguments ended.now.log.items) }
+    ensures free { IfOk result (λ r. r.free ≡ is_race_free
+        ended.now.module.now ended.now.core.world.arguments ended.now.log.items) }
+{
+    if json {
+        return source_race_values(alloc, text, units, shared, ended);
+    }
+    source_races(alloc, text, units, shared, ended)
+}
+
+/// The races of a run of a module.
+fn module_report(alloc: Global, json: bool, ended: &Ended<'_>) -> Result<RaceReport, AllocError>
+    ensures text { IfOk result (λ r. r.text.items ≡ plain_races json
+        ended.now.module.now ended.now.core.world.arguments ended.now.log.items) }
+    ensures free { IfOk result (λ r. r.free ≡ is_race_free
+        ended.now.module.now ended.now.core.world.arguments ended.now.log.items) }
+{
+    if json {
+        return module_race_values(alloc, ended);
+    }
+    module_races(alloc, ended)
 }
 
 /// How long a run had to take that came to its end.

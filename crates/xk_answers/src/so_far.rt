@@ -82,7 +82,7 @@ pub(crate) fn image_so_far(
 }
 
 /// The same as a page of the file.
-pub(crate) fn page_so_far(
+pub fn page_so_far(
     alloc: Global,
     file: &str,
     from: &Provenance<'_>,

@@ -15,7 +15,7 @@ use Rattle.clap.specs.declared.error.kind.ErrorKind.TheVariants as kind
 use Rattle.xk_jobs.specs.WorkerCount.{count_within, most_workers, some_processors}
 use Rattle.xk_cli.specs.Numbers.{count_named, is_numeral, least_number, most_count, most_number, numbers_named}
 use Rattle.xk_jobs.specs.Status.{status_done, status_memory, status_words}
-use Rattle.xk_jobs.specs.Tasks.{Asked, ByHand, By, Chart, Check, Compile, Count, Events, Expected, Explain, Greedy, In, Json, Lanes, Listing, OutcomePage, Outcomes, Page, Races, Replay, Run, Span, Tally, Task, Way, Where, Why, hand_task, task_value}
+use Rattle.xk_jobs.specs.Tasks.{Asked, By, ByHand, Chart, Check, Compile, Count, Events, Expected, Explain, Greedy, hand_task, In, Json, Lanes, Listing, OutcomePage, Outcomes, Page, Races, Replay, Rounds, Run, Span, Tally, Task, task_value, Way, Where, Why}
 use Rattle.xk_jobs.specs.declared.job.Command.{Command}
 use Rattle.xk_jobs.specs.declared.job.Form.{Form}
 use Rattle.xk_jobs.specs.declared.job.Form.TheVariants as form
@@ -154,9 +154,9 @@ outcomes_line = on_file (codes "outcomes")
     (module_flag ∷ limit_option ∷ count_option (codes "K") (codes "pick") ∷ log_option ∷ flag (codes "sets") ∷ flag (codes "count")
     ∷ option (codes "FILE2") (codes "expect") ∷ arg_option ∷ json_flag ∷ [])
 
--- prints races, maybe of the run that a log has
+-- prints races, maybe of the run that a log has, maybe as a JSON value
 abbrev pub races_line : App
-races_line = on_file (codes "races") (module_flag ∷ log_choice ∷ arg_option ∷ [])
+races_line = on_file (codes "races") (module_flag ∷ log_choice ∷ arg_option ∷ json_flag ∷ [])
 
 -- a command of this name on the run that a log has
 abbrev pub on_run : Text → App
@@ -166,10 +166,10 @@ on_run name = on_file name (module_flag ∷ log_place ∷ arg_option ∷ [])
 abbrev pub events_line : App
 events_line = on_file (codes "events") (module_flag ∷ log_place ∷ arg_option ∷ json_flag ∷ [])
 
--- draws lanes, maybe from a step on and up to one, maybe as a picture, maybe with a critical path
+-- draws lanes, maybe from a step on and up to one, maybe as a picture, maybe with a critical path; or by rounds
 abbrev pub lanes_line : App
 lanes_line = on_file (codes "lanes")
-    (module_flag ∷ log_place ∷ arg_option ∷ from_option ∷ to_option ∷ flag (codes "svg") ∷ flag (codes "path") ∷ [])
+    (module_flag ∷ log_place ∷ arg_option ∷ from_option ∷ to_option ∷ flag (codes "svg") ∷ flag (codes "path") ∷ flag (codes "rounds") ∷ [])
 
 -- makes a page of the run that a log has, or of an outcome, of which so many are looked for, maybe from a step on and up to one
 abbrev pub page_line : App
@@ -397,6 +397,18 @@ abbrev pub lanes_on : Text → List Row → Task
 lanes_on log given =
     Lanes log (count_in (codes "FROM") given) (count_in (codes "TO") given) (is_flagged (codes "svg") given) (is_flagged (codes "path") given)
 
+-- `--rounds` was given, and a picture, a critical path, or a part of the run
+abbrev pub are_rounds_misplaced : List Row → Bool
+are_rounds_misplaced given =
+    is_flagged (codes "rounds") given
+    && (is_flagged (codes "svg") given || is_flagged (codes "path") given
+    || is_some (first_of (codes "FROM") given) || is_some (first_of (codes "TO") given))
+
+-- Lanes by rounds are of all steps, and drawn in no other way.
+abbrev pub lanes_by : Text → List Row → Option Task
+lanes_by log given =
+    if are_rounds_misplaced given then None else Some (if is_flagged (codes "rounds") given then Rounds log else lanes_on log given)
+
 -- `page` on a log, with what else was given to it
 abbrev pub page_on : Text → List Row → Task
 page_on log given = Page log (count_in (codes "FROM") given) (count_in (codes "TO") given)
@@ -440,10 +452,14 @@ command_on name log given =
     if bytes_eq name (codes "replay") then Some (Replay log)
     else (if bytes_eq name (codes "chart") then Some (Chart log)
     else (if bytes_eq name (codes "events") then Some (told_as (is_json given) (Events log))
-    else (if bytes_eq name (codes "lanes") then Some (lanes_on log given)
+    else (if bytes_eq name (codes "lanes") then lanes_by log given
     else (if bytes_eq name (codes "where") then Some (where_on log given)
     else (if bytes_eq name (codes "span") then Some (Span log)
     else (if bytes_eq name (codes "why") then why_on log given else None))))))
+
+-- `races` with what was given to it
+abbrev pub races_in : List Row → Task
+races_in given = told_as (is_json given) (Races (first_of (codes "LOG") given))
 
 -- the command of a name that wants a log
 abbrev pub command_by_log : Text → List Row → Option Task
@@ -462,7 +478,7 @@ command_by name given =
     else (if bytes_eq name (codes "listing") then Some Listing
     else (if bytes_eq name (codes "outcomes") then outcomes_by given
     else (if bytes_eq name (codes "page") then page_by given
-    else (if bytes_eq name (codes "races") then Some (Races (first_of (codes "LOG") given)) else command_by_log name given))))))
+    else (if bytes_eq name (codes "races") then Some (races_in given) else command_by_log name given))))))
 
 -- what the command of a name does, with what else was given to it
 abbrev pub task_by : Text → List Row → Option Task
@@ -494,6 +510,7 @@ is_misfit name given misfit.PickAlone = is_pick_alone given
 is_misfit name given misfit.MisplacedCount = is_count_misplaced given
 is_misfit name given misfit.UnclearPage = is_page_unclear name given
 is_misfit name given misfit.MisplacedJson = is_json_misplaced given
+is_misfit name given misfit.MisplacedRounds = are_rounds_misplaced given
 
 -- the same of the command that was found
 abbrev pub misfits_by : Option (Text × List Row) → Misfit → Bool

@@ -39,6 +39,10 @@ page_line = codes "x10clock: page takes either LOG or --outcome, and --limit goe
 abbrev json_line : List ℕ
 json_line = codes "x10clock: --json goes without --order ask and --runs\n"
 
+-- they have `--rounds` with a picture, a critical path, or a part of the run
+abbrev rounds_line : List ℕ
+rounds_line = codes "x10clock: --rounds goes without --path, --svg, --from and --to\n"
+
 -- the line that tells it
 abbrev pub line_of : Misfit → List ℕ
 line_of misfit.OrderAndWorkers = excluded_line
@@ -50,3 +54,4 @@ line_of misfit.PickAlone = pick_line
 line_of misfit.MisplacedCount = count_line
 line_of misfit.UnclearPage = page_line
 line_of misfit.MisplacedJson = json_line
+line_of misfit.MisplacedRounds = rounds_line

@@ -182,7 +182,7 @@ fn races_line<'a>(alloc: Global) -> Result<clap::Command<'a>, AllocError>
         alloc,
         "The log of a run of FILE: the run in the order first where nothing is said",
     );
-    let options = [module_flag(alloc), log, arg_option(alloc)];
+    let options = [module_flag(alloc), log, arg_option(alloc), json_flag(alloc)];
     on_file(alloc, "races", about, Vec::from_array(alloc, options)?)
 }
 
@@ -243,6 +243,11 @@ fn lanes_line<'a>(alloc: Global) -> Result<clap::Command<'a>, AllocError>
             alloc,
             "path",
             "Draws the round of each step, and a critical path",
+        ),
+        flag(
+            alloc,
+            "rounds",
+            "Draws a row for each round, in place of each step",
         ),
     ];
     on_file(alloc, "lanes", about, Vec::from_array(alloc, options)?)

@@ -2,7 +2,8 @@
 
 ghost use Rattle.std.specs.Prelude.{◌≡◌, IfOk, option_map};
 ghost use Rattle.clap.specs.Words.{first_of, found_of, rows_of};
-ghost use Rattle.xk_cli.specs.CommandLine.{are_processors_alone, are_runs_misplaced, arguments_in, count_in, drive_in, form_in, is_both};
+ghost use Rattle.xk_cli.specs.CommandLine.{are_processors_alone, are_rounds_misplaced, are_runs_misplaced};
+ghost use Rattle.xk_cli.specs.CommandLine.{arguments_in, count_in, drive_in, form_in, is_both};
 ghost use Rattle.xk_cli.specs.CommandLine.{is_flagged, is_list_misplaced, is_order, is_pick_alone, is_seed_alone, order_in};
 ghost use Rattle.xk_cli.specs.CommandLine.{is_count_misplaced, is_json, is_json_misplaced, is_page_unclear};
 ghost use Rattle.xk_cli.specs.CommandLine.{is_run_unclear, order_named, processors_in, seed_in};
@@ -113,6 +114,17 @@ pub(crate) fn is_json_misplaced(given: &ArgMatches<'_>) -> bool
     ensures { result ≡ is_json_misplaced (rows_of (found_of given.now)) }
 {
     is_json(given) && (is_order(given, "ask") || given_in(given, "RUNS").is_some())
+}
+
+/// Whether `--rounds` was given, and a picture, a critical path, or a part of the run.
+pub(crate) fn are_rounds_misplaced(given: &ArgMatches<'_>) -> bool
+    ensures { result ≡ are_rounds_misplaced (rows_of (found_of given.now)) }
+{
+    is_flagged(given, "rounds")
+        && (is_flagged(given, "svg")
+            || is_flagged(given, "path")
+            || given_in(given, "FROM").is_some()
+            || given_in(given, "TO").is_some())
 }
 
 /// Whether the order of this name was given.

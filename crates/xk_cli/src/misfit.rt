@@ -30,6 +30,9 @@ const PAGE_LINE: &str =
 /// The line of words that have `--json` with a run that is told by no value.
 const JSON_LINE: &str = "x10clock: --json goes without --order ask and --runs\n";
 
+/// The line of words that have `--rounds` with a picture, a critical path, or a part of the run.
+const ROUNDS_LINE: &str = "x10clock: --rounds goes without --path, --svg, --from and --to\n";
+
 /// Why options don't go together.
 #[derive(Clone, Copy, Debug, PartialEq, Eq)]
 pub enum Misfit {
@@ -51,6 +54,8 @@ pub enum Misfit {
     UnclearPage,
     /// `--json` stands beside `--order ask` or `--runs`.
     MisplacedJson,
+    /// `--rounds` stands beside `--path`, `--svg`, `--from` or `--to`.
+    MisplacedRounds,
 }
 
 impl Misfit {
@@ -70,6 +75,7 @@ impl Misfit {
             Misfit::MisplacedCount => COUNT_LINE,
             Misfit::UnclearPage => PAGE_LINE,
             Misfit::MisplacedJson => JSON_LINE,
+            Misfit::MisplacedRounds => ROUNDS_LINE,
         }
     }
 }

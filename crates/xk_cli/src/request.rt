@@ -4,16 +4,18 @@ ghost use Rattle.std.specs.Prelude.{◌≡◌, [], false, Some, None, IfNone, If
 ghost use Rattle.clap.specs.Words.{found_of, kind_of, rows_of, subcommand_rows_of};
 ghost use Rattle.xk_cli.specs.declared.misfit.Misfit.{Misfit as AMisfit};
 ghost use Rattle.xk_cli.specs.CommandLine.{FitsKind, IsRefused, WithOrders, asked_by, asked_in, asked_of, check_in, command_by};
-ghost use Rattle.xk_cli.specs.CommandLine.{command_by_log, faults_in, found_task, is_misfit, job_of, listed_of, misfits_by, misfits_in};
-ghost use Rattle.xk_cli.specs.CommandLine.{outcome_page_of, outcomes_by, outcomes_of, page_by, run_by, run_in, task_by, texts};
-ghost use Rattle.xk_cli.specs.CommandLine.{told_as, why_on};
+ghost use Rattle.xk_cli.specs.CommandLine.{command_by_log, faults_in, found_task, is_misfit, job_of, lanes_by};
+ghost use Rattle.xk_cli.specs.CommandLine.{listed_of, misfits_by, misfits_in};
+ghost use Rattle.xk_cli.specs.CommandLine.{outcome_page_of, outcomes_by, outcomes_of, page_by, races_in, run_by, run_in, task_by};
+ghost use Rattle.xk_cli.specs.CommandLine.{texts, told_as, why_on};
 ghost use Rattle.xk_jobs.specs.Tasks.{Events, Run, asked_value, task_value, way_value};
 
 use crate::commands::line;
 use crate::given::{
-    are_processors_alone, are_runs_misplaced, arguments_in, count_in, drive_in, form_in, given_in,
-    is_both, is_count_misplaced, is_flagged, is_json, is_json_misplaced, is_list_misplaced, is_order, is_page_unclear,
-    is_pick_alone, is_run_unclear, is_seed_alone, seed_in,
+    are_processors_alone, are_rounds_misplaced, are_runs_misplaced, arguments_in, count_in,
+    drive_in, form_in, given_in, is_both, is_count_misplaced, is_flagged, is_json,
+    is_json_misplaced, is_list_misplaced, is_order, is_page_unclear, is_pick_alone, is_run_unclear,
+    is_seed_alone, seed_in,
 };
 use crate::misfit::Misfit;
 use crate::words_fault::WordsFault;
@@ -205,11 +207,20 @@ fn command_by<'a>(name: &str, given: &ArgMatches<'a>) -> Option<Command<'a>>
         "listing" => Some(Command::Listing),
         "outcomes" => outcomes_by(given),
         "page" => page_by(given),
-        "races" => Some(Command::Races {
-            log: given_in(given, "LOG"),
-        }),
+        "races" => Some(races_in(given)),
         _ => command_by_log(name, given),
     }
+}
+
+/// The command `races` with what was given to it, told as JSON or not.
+fn races_in<'a>(given: &ArgMatches<'a>) -> Command<'a>
+    ensures { task_value result ≡ races_in (rows_of (found_of given.now)) }
+{
+    let log = given_in(given, "LOG");
+    if is_json(given) {
+        return Command::Json(Values::Races { log });
+    }
+    Command::Races { log }
 }
 
 /// The command `check` with what was given to it: as a JSON value it is what `explain` tells.
@@ -232,13 +243,7 @@ fn command_by_log<'a>(name: &str, given: &ArgMatches<'a>) -> Option<Command<'a>>
         "replay" => Some(Command::Replay { log }),
         "chart" => Some(Command::Chart { log }),
         "events" => Some(events_on(is_json(given), log)),
-        "lanes" => Some(Command::Lanes {
-            log,
-            from: count_in(given, "FROM"),
-            to: count_in(given, "TO"),
-            svg: is_flagged(given, "svg"),
-            path: is_flagged(given, "path"),
-        }),
+        "lanes" => lanes_by(log, given),
         "where" => Some(Command::Where {
             log,
             at: count_in(given, "AT"),
@@ -257,6 +262,25 @@ fn events_on<'a>(json: bool, log: &'a str) -> Command<'a>
         return Command::Json(Values::Events { log });
     }
     Command::Events { log }
+}
+
+/// The command `lanes` on this log, with what else was given to it. None where `--rounds` has no place there.
+fn lanes_by<'a>(log: &'a str, given: &ArgMatches<'a>) -> Option<Command<'a>>
+    ensures { option_map task_value result ≡ lanes_by log.entry.now (rows_of (found_of given.now)) }
+{
+    if are_rounds_misplaced(given) {
+        return None;
+    }
+    if is_flagged(given, "rounds") {
+        return Some(Command::Rounds { log });
+    }
+    Some(Command::Lanes {
+        log,
+        from: count_in(given, "FROM"),
+        to: count_in(given, "TO"),
+        svg: is_flagged(given, "svg"),
+        path: is_flagged(given, "path"),
+    })
 }
 
 /// The command `why` on this log, with the step that was given to it.
@@ -405,6 +429,9 @@ fn misfit(name: &str, given: &ArgMatches<'_>) -> Option<Misfit>
     }
     if is_json_misplaced(given) {
         return Some(Misfit::MisplacedJson);
+    }
+    if are_rounds_misplaced(given) {
+        return Some(Misfit::MisplacedRounds);
     }
     None
 }

@@ -11,10 +11,10 @@ use Rattle.xk_law_rounds.specs.Rounds.{AreGreedy}
 use Rattle.xk_scheduler.proofs.LocalRunLemmas.{enabled_within}
 use Rattle.xk_greedy.specs.Rounds.{AreRoundsBy}
 
-own_turn : (a : ℕ) (xs : List ℕ) → turns_of a (a ∷ xs) ≡ suc (turns_of a xs)
+pub own_turn : (a : ℕ) (xs : List ℕ) → turns_of a (a ∷ xs) ≡ suc (turns_of a xs)
 own_turn a xs = rw (eq-eqb a a refl) refl
 
-other_turn : (a x : ℕ) (xs : List ℕ) → (x ≡ a → ⊥) → turns_of a (x ∷ xs) ≡ turns_of a xs
+pub other_turn : (a x : ℕ) (xs : List ℕ) → (x ≡ a → ⊥) → turns_of a (x ∷ xs) ≡ turns_of a xs
 other_turn a x xs ne = rw (ne_eqb x a ne) refl
 
 -- ---- who is among the numbers of a row that pass a test
@@ -28,7 +28,7 @@ passes_at p a k xs true e later here = elim (cases_eq k a) [
 ]
 passes_at p a k xs false e later here = later here
 
-turns_pass : (p : ℕ → Bool) (a k n : ℕ) → 0 < turns_of a (filter p (numbers_from k n)) → p a ≡ true
+pub turns_pass : (p : ℕ → Bool) (a k n : ℕ) → 0 < turns_of a (filter p (numbers_from k n)) → p a ≡ true
 turns_pass p a k zero some = absurd (omega arith)
 turns_pass p a k (suc n) some = passes_at p a k (filter p (numbers_from (suc k) n)) (p k) refl (turns_pass p a (suc k) n) some
 
@@ -51,7 +51,7 @@ once_at a k xs true none once = elim (cases_eq k a) [
 ]
 once_at a k xs false none once = once
 
-turns_once : (p : ℕ → Bool) (a k n : ℕ) → turns_of a (filter p (numbers_from k n)) ≤ 1
+pub turns_once : (p : ℕ → Bool) (a k n : ℕ) → turns_of a (filter p (numbers_from k n)) ≤ 1
 turns_once p a k zero = omega arith
 turns_once p a k (suc n) =
     once_at a k (filter p (numbers_from (suc k) n)) (p k) (λ same. turns_below p a (suc k) n (omega (arith, same))) (turns_once p a (suc k) n)
@@ -65,7 +65,7 @@ there_at p a k xs true e passes later = elim (cases_eq k a) [
 ]
 there_at p a k xs false e passes later = later (λ same. true≢false (sym (subst (λ x. p x ≡ true) (sym same) passes) ∙ e))
 
-turns_there : (p : ℕ → Bool) (a k n : ℕ) → p a ≡ true → k ≤ a → a < k + n → 0 < turns_of a (filter p (numbers_from k n))
+pub turns_there : (p : ℕ → Bool) (a k n : ℕ) → p a ≡ true → k ≤ a → a < k + n → 0 < turns_of a (filter p (numbers_from k n))
 turns_there p a k zero passes from below = absurd (omega (arith, from, below))
 turns_there p a k (suc n) passes from below = there_at p a k (filter p (numbers_from (suc k) n)) (p k) refl passes
     (λ ne. turns_there p a (suc k) n passes (omega (arith, from, ne)) (omega (arith, below)))

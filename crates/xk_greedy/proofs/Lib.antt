@@ -4,3 +4,5 @@ pub mod RoundLemmas
 pub mod GreedyLemmas
 pub mod OneRunLemmas
 pub mod SpanLemmas
+pub mod ProcessorLemmas
+pub mod ExistenceLemmas

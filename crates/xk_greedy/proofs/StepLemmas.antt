@@ -93,7 +93,7 @@ chosen_enabled p m w = λ j from inside.
     listed_enabled m w j (get_or acts j 0) (chosen_get p (enabled_in m w) j (get_or acts j 0) (slice_get-get_or acts j 0 inside))
 
 -- somebody is
-chosen_some : (p : Option ℕ) (m : ModuleValue) (w : World) → IsCore m w → AreSome p → all_ended w ≡ false
+pub chosen_some : (p : Option ℕ) (m : ModuleValue) (w : World) → IsCore m w → AreSome p → all_ended w ≡ false
     → 0 < length (chosen p (enabled_in m w))
 chosen_some p m w core some goes_on = of p some (enabled_in m w) refl
   where

@@ -1,10 +1,12 @@
 //! What is proved of runs by rounds: nothing here is computed.
 
-ghost use Rattle.std.specs.Prelude.{◌≡◌, ℕ, ℤ, Option, None, List, true};
+ghost use Rattle.std.specs.Prelude.{◌≡◌, ℕ, ◌+◌, ◌-◌, ◌*◌, ◌/◌, ◌<◌, ◌≤◌, ℤ, Option, Some, None};
+ghost use Rattle.std.specs.Prelude.{List, length, true};
+ghost use Rattle.xk_law_rounds.specs.Processors.{AreBusy};
 ghost use Rattle.xk_law_rounds.specs.Rounds.{AreGreedy, IsSpan};
 ghost use Rattle.xk_law_traces.specs.OneRun.{IsWholeRun};
 ghost use Rattle.xk_law_traces.specs.RaceFreedom.{HasNoRace};
-ghost use Rattle.xk_greedy.specs.Rounds.{AreRoundsBy, IsByRounds};
+ghost use Rattle.xk_greedy.specs.Rounds.{AreRoundsBy, AreSome, IsByRounds};
 ghost use Rattle.xk_types.specs.declared.world.Entry.{Entry};
 ghost use Rattle.xk_types.specs.Acceptance.{IsAccepted};
 ghost use Rattle.xk_types.specs.Code.{IsWithinLimits, ModuleValue};
@@ -46,4 +48,41 @@ pub fn rounds_are_one()
         → IsByRounds processors m args log y count → IsByRounds processors m args other z tally
         → all_ended y ≡ true → all_ended z ≡ true
         → (log ≡ other) × (y ≡ z) × (count ≡ tally) }
+{}
+
+/// Rounds on p processors are those of a greedy run on p: at most p take a step in each of them, and where that leaves a processor,
+/// everybody takes one who can. The call does nothing; its contract is the law.
+pub fn rounds_are_busy()
+    ensures { (m : ModuleValue) (w z : World) (p : ℕ) (rounds : List (List ℕ))
+        → AreRoundsBy (Some p) m w rounds z → AreBusy p m w rounds z }
+{}
+
+/// Where one run has no race, a run by rounds to the end on p processors has at least as many rounds as its span says and as its work
+/// over p, and no more than its span and a p-th of its further work. The call does nothing; its contract is the law.
+pub fn rounds_on_processors()
+    ensures least { (m : ModuleValue) (args : List ℤ) (log : List Entry) (s : List ℕ)
+        (y z : World) (p n count : ℕ)
+        → IsWithinLimits m → IsAccepted m → AreArguments m args → 0 < p
+        → IsWholeRun m args s y → HasNoRace m (opening m args) s → IsSpan m (opening m args) s n
+        → IsByRounds (Some p) m args log z count → all_ended z ≡ true → n ≤ count }
+    ensures share { (m : ModuleValue) (args : List ℤ) (log : List Entry) (s : List ℕ)
+        (y z : World) (p n count : ℕ)
+        → IsWithinLimits m → IsAccepted m → AreArguments m args → 0 < p
+        → IsWholeRun m args s y → HasNoRace m (opening m args) s → IsSpan m (opening m args) s n
+        → IsByRounds (Some p) m args log z count → all_ended z ≡ true → length s ≤ p * count }
+    ensures most { (m : ModuleValue) (args : List ℤ) (log : List Entry) (s : List ℕ)
+        (y z : World) (p n count : ℕ)
+        → IsWithinLimits m → IsAccepted m → AreArguments m args → 0 < p
+        → IsWholeRun m args s y → HasNoRace m (opening m args) s → IsSpan m (opening m args) s n
+        → IsByRounds (Some p) m args log z count → all_ended z ≡ true
+        → count ≤ (length s - n) / p + n }
+{}
+
+/// Each accepted module has a run by rounds to the end with these arguments, on however many processors. The call does nothing; its
+/// contract is the law.
+pub fn rounds_exist()
+    ensures { (processors : Option ℕ) (m : ModuleValue) (args : List ℤ)
+        → IsWithinLimits m → IsAccepted m → AreArguments m args → AreSome processors
+        → (z : World) × (rounds : List (List ℕ))
+        × AreRoundsBy processors m (opening m args) rounds z × (all_ended z ≡ true) }
 {}

@@ -13,6 +13,7 @@ explanation _ = None
 -- whether values have them
 abbrev pub have_places : Values → Bool
 have_places (values.Events log) = true
+have_places (values.Races path) = true
 have_places _ = false
 
 -- whether what is printed has the lines of a source text
@@ -21,6 +22,7 @@ shows_origins (command.Explain json) = true
 shows_origins command.Listing = true
 shows_origins (command.Events log) = true
 shows_origins (command.Lanes log from to svg path) = true
+shows_origins (command.Rounds log) = true
 shows_origins (command.Page log from to) = true
 shows_origins (command.OutcomePage pick limit from to) = true
 shows_origins (command.Where log at) = true

@@ -43,6 +43,7 @@ pub data Task : Type 0 where
   Chart : List ℕ → Task
   Events : List ℕ → Task
   Lanes : List ℕ → Option ℕ → Option ℕ → Bool → Bool → Task
+  Rounds : List ℕ → Task
   Page : List ℕ → Option ℕ → Option ℕ → Task
   OutcomePage : ℕ → Option ℕ → Option ℕ → Option ℕ → Task
   Where : List ℕ → Option ℕ → Task
@@ -58,6 +59,7 @@ pub data Task : Type 0 where
 abbrev pub told_value : Values → Task
 told_value (values.Run given log) = Run (option_map way_value given) (option_map (λ s. s.now) log)
 told_value (values.Events log) = Events log.now
+told_value (values.Races log) = Races (option_map (λ s. s.now) log)
 told_value (values.Outcomes limit pick log sets) = Outcomes limit pick (option_map (λ s. s.now) log) sets
 told_value (values.Expected list limit sets) = Expected list.now limit sets
 
@@ -72,6 +74,7 @@ task_value (command.Replay log) = Replay log.now
 task_value (command.Chart log) = Chart log.now
 task_value (command.Events log) = Events log.now
 task_value (command.Lanes log from to svg path) = Lanes log.now from to svg path
+task_value (command.Rounds log) = Rounds log.now
 task_value (command.Page log from to) = Page log.now from to
 task_value (command.OutcomePage pick limit from to) = OutcomePage pick limit from to
 task_value (command.Where log at) = Where log.now at

@@ -59,6 +59,11 @@ pub enum Command<'a> {
         /// `--path`: with the round of each step, and a critical path.
         path: bool,
     },
+    /// `lanes --rounds`: draw the run of FILE that a log has by the rounds that `span` tells of.
+    Rounds {
+        /// The log's path.
+        log: &'a str,
+    },
     /// `page`: make an HTML page of the run of FILE that a log has, to go through it step by step.
     Page {
         /// The log's path.
@@ -146,6 +151,10 @@ pub enum Values<'a> {
     Events {
         log: &'a str,
     },
+    /// `races --json`: which steps of a run of FILE race with one another, as one value.
+    Races {
+        log: Option<&'a str>,
+    },
     /// `outcomes --json`: all that FILE can print, as one value.
     Outcomes {
         limit: Option<u64>,
@@ -171,6 +180,7 @@ impl<'a> Values<'a> {
     {
         match *self {
             Values::Events { log } => Some(log),
+            Values::Races { log } => log,
             Values::Expected { list, .. } => Some(list),
             Values::Run { .. } | Values::Outcomes { .. } => None,
         }
@@ -182,7 +192,7 @@ impl<'a> Values<'a> {
     {
         match *self {
             Values::Run { log, .. } | Values::Outcomes { log, .. } => log,
-            Values::Events { .. } | Values::Expected { .. } => None,
+            Values::Events { .. } | Values::Races { .. } | Values::Expected { .. } => None,
         }
     }
 
@@ -191,7 +201,7 @@ impl<'a> Values<'a> {
         ensures { result ≡ have_places self.now }
     {
         match *self {
-            Values::Events { .. } => true,
+            Values::Events { .. } | Values::Races { .. } => true,
             Values::Run { .. } | Values::Outcomes { .. } | Values::Expected { .. } => false,
         }
     }
@@ -210,6 +220,7 @@ impl<'a> Command<'a> {
             | Command::Chart { log }
             | Command::Events { log }
             | Command::Lanes { log, .. }
+            | Command::Rounds { log }
             | Command::Page { log, .. }
             | Command::Where { log, .. }
             | Command::Span { log }
@@ -245,6 +256,7 @@ impl<'a> Command<'a> {
             | Command::Chart { .. }
             | Command::Events { .. }
             | Command::Lanes { .. }
+            | Command::Rounds { .. }
             | Command::Page { .. }
             | Command::OutcomePage { .. }
             | Command::Where { .. }
@@ -271,6 +283,7 @@ impl<'a> Command<'a> {
             | Command::Chart { .. }
             | Command::Events { .. }
             | Command::Lanes { .. }
+            | Command::Rounds { .. }
             | Command::Page { .. }
             | Command::OutcomePage { .. }
             | Command::Where { .. }
@@ -293,6 +306,7 @@ impl<'a> Command<'a> {
             | Command::Listing
             | Command::Events { .. }
             | Command::Lanes { .. }
+            | Command::Rounds { .. }
             | Command::Page { .. }
             | Command::OutcomePage { .. }
             | Command::Where { .. }

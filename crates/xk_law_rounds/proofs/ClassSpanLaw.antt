@@ -178,6 +178,18 @@ same_rounds m args s t z y limits ok taken one other free =
     rounds_there m args limits ok taken s t z y one other (member m args limits ok taken s t z y one free other)
     (back m args limits ok taken s t z y one free other)
 
+-- and there and back each step has its own name again
+pub both_rounds : (m : ModuleValue) (args : List ℤ) (s t : List ℕ) (z y : World)
+    → IsWithinLimits m → IsAccepted m → AreArguments m args
+    → IsWholeRun m args s z → IsWholeRun m args t y → HasNoRace m (opening m args) s
+    → (there : HaveSameRounds m (opening m args) s t) × (back : HaveSameRounds m (opening m args) t s)
+    × (back.back ≡ there.names) × (there.back ≡ back.names)
+unfolding rounds_there
+both_rounds m args s t z y limits ok taken one other free =
+    let a = member m args limits ok taken s t z y one free other in
+    let b = back m args limits ok taken s t z y one free other in
+    (rounds_there m args limits ok taken s t z y one other a b, rounds_there m args limits ok taken t s y z other one b a, refl, refl)
+
 pub every_span : (m : ModuleValue) (args : List ℤ) (s t : List ℕ) (z y : World) (n : ℕ)
     → IsWithinLimits m → IsAccepted m → AreArguments m args
     → IsWholeRun m args s z → HasNoRace m (opening m args) s → IsWholeRun m args t y

@@ -1,10 +1,12 @@
 -- A chain of a run, by evaluation: main makes a clock and starts an activity with it, and both wait for the clock.
-use Rattle.std.proofs.Common.{ℕ, List, [], ◌∷◌, inl, inr, refl, arith}
-use Rattle.xk_types.specs.Schedule.{Course, Held, Through, Wronged, run}
+use Rattle.std.proofs.Common.{◌≡◌, ℕ, zero, suc, ◌<◌, ◌≤◌, true, List, [], ◌∷◌, inl, inr, ne_eqb, refl, arith}
+use Rattle.xk_types.specs.Schedule.{Course, Held, Through, Wronged, run, is_enabled}
 use Rattle.xk_types.specs.World.{World, opening}
 use Rattle.xk_law_schedules.proofs.Examples.Pair.{pair_row}
-use Rattle.xk_law_traces.specs.Edges.{IsCause, IsPass, IsStart}
+use Rattle.xk_law_traces.specs.Edges.{IsCause, IsPass, IsStart, turns_of}
+use Rattle.xk_law_traces.proofs.EdgeLaw.{turns_other}
 use Rattle.xk_law_rounds.specs.Rounds.{IsChainBy, IsTakenIn}
+use Rattle.xk_law_rounds.specs.Processors.{AreWithin, IsBusyRound, dealt_rounds, rounds_for}
 
 abbrev start : World
 start = opening pair_row []
@@ -80,3 +82,28 @@ six = (0 ∷ []) ∷ (0 ∷ []) ∷ (0 ∷ []) ∷ (0 ∷ 1 ∷ []) ∷ (1 ∷ [
 
 pair_seventh : IsTakenIn six (0 ∷ 1 ∷ []) (0, 4)
 pair_seventh = (omega arith, omega arith)
+
+-- On two processors a round of these has two steps at most; on one, the last one, with two, takes two.
+pair_within : AreWithin 2 ((0 ∷ []) ∷ (0 ∷ 1 ∷ []) ∷ [])
+pair_within = (omega arith, (omega arith, tt))
+
+pair_dealt : (dealt_rounds 1 ((0 ∷ []) ∷ (0 ∷ 1 ∷ []) ∷ []) ≡ 3) × (dealt_rounds 2 ((0 ∷ []) ∷ (0 ∷ 1 ∷ []) ∷ []) ≡ 2)
+    × (rounds_for 4 9 ≡ 3) × (rounds_for 4 8 ≡ 2)
+pair_dealt = (refl, refl, refl, refl)
+
+-- the first round, on one processor: main takes a step, and nobody else could
+first_enabled : (a : ℕ) → 0 < turns_of a (0 ∷ []) → is_enabled pair_row start a ≡ true
+first_enabled zero some = refl
+first_enabled (suc a) some = absurd (let none = turns_other (suc a) 0 [] (ne_eqb 0 (suc a) (λ is. omega (arith, is))) in omega (arith, some, none))
+
+first_once : (a : ℕ) → turns_of a (0 ∷ []) ≤ 1
+first_once zero = omega arith
+first_once (suc a) = let none = turns_other (suc a) 0 [] (ne_eqb 0 (suc a) (λ is. omega (arith, is))) in omega (arith, none)
+
+first_busy : IsBusyRound 1 pair_row start (0 ∷ []) (last (0 ∷ []))
+first_busy = record {
+  round = record { enabled = first_enabled; once = first_once; leads = refl };
+  some = omega arith;
+  within = omega arith;
+  busy = λ less. absurd (omega (arith, less));
+}

@@ -17,7 +17,7 @@ use Rattle.xk_law_rounds.specs.Rounds.{IsRound, IsFull, AreGreedy, steps_in, IsC
 use Rattle.xk_law_rounds.proofs.RoundLaw.{link_taken, same_turns}
 
 -- who stands first in a list has a turn in it
-first_of : (r : List ℕ) → 0 < length r → (a : ℕ) × (0 < turns_of a r)
+pub first_of : (r : List ℕ) → 0 < length r → (a : ℕ) × (0 < turns_of a r)
 first_of [] some = absurd (omega (arith, some))
 first_of (a ∷ r) some = (a, let e = turns_same a a r (eq-eqb a a refl) in omega (arith, e))
 

@@ -18,7 +18,7 @@ use Rattle.xk_law_rounds.proofs.GreedyLaw.{has_chain, in_round}
 use Rattle.xk_law_rounds.proofs.RoundLaw.{by_round, first, no_longer, sound_there}
 
 -- each cause is taken before, in each schedule of the class
-cause_sound : (m : ModuleValue) (args : List ℤ) → IsWithinLimits m → IsAccepted m → AreArguments m args
+pub cause_sound : (m : ModuleValue) (args : List ℤ) → IsWithinLimits m → IsAccepted m → AreArguments m args
     → (s t : List ℕ) (z : World) → IsWholeRun m args s z → (whole : AreOneClass m (opening m args) s t)
     → (x k : StepName) → IsCause m (opening m args) s x k → (before after : List ℕ) (v : World) → t ≡ before ++ after
     → run m before (opening m args) ≡ Through v
@@ -42,7 +42,7 @@ causes_complete m args s z limits ok taken legal y some before after v whole lea
     waited m args limits ok taken s z legal y some before after v whole leads turn stuck
 
 -- greedy rounds are rounds
-rounds_of : (m : ModuleValue) (w z : World) (rounds : List (List ℕ)) → AreGreedy m w rounds z → AreRounds m w rounds z
+pub rounds_of : (m : ModuleValue) (w z : World) (rounds : List (List ℕ)) → AreGreedy m w rounds z → AreRounds m w rounds z
 rounds_of m w z [] h = h
 rounds_of m w z (r ∷ rs) h = (h.0, h.1, rounds_of m h.0 z rs h.4)
 
@@ -75,7 +75,7 @@ module _ (m : ModuleValue) (args : List ℤ) (limits : IsWithinLimits m) (ok : I
   }
 
 -- the steps of some rounds, and of those behind them
-steps_of : (before after : List (List ℕ)) → steps_in (before ++ after) ≡ steps_in before ++ steps_in after
+pub steps_of : (before after : List (List ℕ)) → steps_in (before ++ after) ≡ steps_in before ++ steps_in after
 steps_of [] after = refl
 steps_of (r ∷ before) after = ap (λ l. r ++ l) (steps_of before after) ∙ sym (append_assoc r (steps_in before) (steps_in after))
 

@@ -5,4 +5,10 @@ pub mod TellLemmas
 pub mod ToldChainLemmas
 pub mod ToldOrderLemmas
 pub mod ToldSpanLaw
+pub mod WidthLemmas
+pub mod ToldWidthLaw
+pub mod ShareLemmas
+pub mod ToldProcessorsLaw
+pub mod LevelLemmas
+pub mod ToldLevelLaw
 pub mod Examples

@@ -620,37 +620,63 @@ module _ (m : ModuleValue) (args : List ℤ) (limits : IsWithinLimits m) (ok : I
       long : suc (length r.0) ≡ n
       long = let a = most r.0 r.1 in let b = r.2 in let c = exact.long.2 in omega (arith, a, b, c)
 
-  round_told : (k : ℕ) (d : Deed) → IsAt es k d → d.part ≡ part.Print
-      → IsInRound m w s (d.step.act, turns_of d.step.act (take (pred d.step.number) s)) (number_at (steps_times es) k)
-  round_told k d at is = by (place m args limits ok taken log z legal u.0 k d u.1)
+  -- the name of the step that a deed is
+  abbrev name_told : Deed → StepName
+  name_told d = (d.step.act, turns_of d.step.act (take (pred d.step.number) s))
+
+  name_is : (u : At) (k : ℕ) (d : Deed) → Is u k d → name_of u ≡ name_told d
+  name_is u k d r =
+      sym (ap (λ a. (a, turns_of a (take (pred d.step.number) s))) act ∙ ap (λ l. (u.act, turns_of u.act l)) front)
+    where
+      front : take (pred d.step.number) s ≡ u.before
+      front =
+          ap (λ n. take (pred n) s) (number_of m args limits ok taken log z legal u k d r)
+          ∙ ap (take (length u.before)) u.whole ∙ take-append_seam u.before (u.act ∷ u.after)
+
+      act : d.step.act ≡ u.act
+      act = whose_is m args limits ok taken log z legal u k d r
+
+  -- the step that stands there
+  stands_for : (k : ℕ) (d : Deed) → IsAt es k d → d.part ≡ part.Print → (u : At) × (place_of u ≡ k) × (name_of u ≡ name_told d)
+  stands_for k d at is =
+      (u.0, by (place m args limits ok taken log z legal u.0 k d u.1), name_is u.0 k d u.1)
     where
       u : (t : At) × Is t k d
       u = turn_at m args limits ok taken log z legal k d at
 
-      front : take (pred d.step.number) s ≡ u.0.before
-      front =
-          ap (λ n. take (pred n) s) (number_of m args limits ok taken log z legal u.0 k d u.1)
-          ∙ ap (take (length u.0.before)) u.0.whole ∙ take-append_seam u.0.before (u.0.act ∷ u.0.after)
-
-      act : d.step.act ≡ u.0.act
-      act = whose_is m args limits ok taken log z legal u.0 k d u.1
-
-      name : name_of u.0 ≡ (d.step.act, turns_of d.step.act (take (pred d.step.number) s))
-      name = sym (ap (λ a. (a, turns_of a (take (pred d.step.number) s))) act ∙ ap (λ l. (u.0.act, turns_of u.0.act l)) front)
-
-      time : IsTime es (steps_weigh es) k (number_at (steps_times es) k)
-      time = times_are_exact (steps_weigh es) es k d at
-
-      mid_round : k ≡ place_of u.0
-          → IsInRound m w s (d.step.act, turns_of d.step.act (take (pred d.step.number) s)) (number_at (steps_times es) k)
-      mid_round e = subst (λ x. IsInRound m w s x (number_at (steps_times es) k)) name
-          (in_round u.0 (number_at (steps_times es) k) (subst (λ i. IsTime es (steps_weigh es) i (number_at (steps_times es) k)) e time))
-
-      by : Place m u.0.here u.0.there u.0.act u.0.e u.1.offset d
-          → IsInRound m w s (d.step.act, turns_of d.step.act (take (pred d.step.number) s)) (number_at (steps_times es) k)
+      by : Place m u.0.here u.0.there u.0.act u.0.e u.1.offset d → place_of u.0 ≡ k
       by (Front less h j g) = absurd (true≢false (sym h ∙ ap waits is))
-      by (Mid h g) = mid_round (let n = u.1.number in omega (arith, n, h))
+      by (Mid h g) = (let n = u.1.number in omega (arith, n, h))
       by (Back less h j g) = absurd (true≢false (sym h ∙ ap lets_go is))
+
+  round_told : (k : ℕ) (d : Deed) → IsAt es k d → d.part ≡ part.Print → IsInRound m w s (name_told d) (number_at (steps_times es) k)
+  round_told k d at is =
+      let u = stands_for k d at is in
+      let time : IsTime es (steps_weigh es) k (number_at (steps_times es) k) = times_are_exact (steps_weigh es) es k d at in
+      subst (λ x. IsInRound m w s x (number_at (steps_times es) k)) u.2
+      (in_round u.0 (number_at (steps_times es) k)
+      (subst (λ i. IsTime es (steps_weigh es) i (number_at (steps_times es) k)) (sym u.1) time))
+
+  -- a step stands at one place
+  pub told_once : (j k : ℕ) (d e : Deed) → IsAt es j d → IsAt es k e → d.part ≡ part.Print → e.part ≡ part.Print
+      → name_told d ≡ name_told e → j ≡ k
+  told_once j k d e here there is too same =
+      let t = stands_for j d here is in
+      let u = stands_for k e there too in
+      sym t.1 ∙ mid_one m args limits ok taken log z legal t.0 u.0 (one_of t.0 u.0 (t.2 ∙ same ∙ sym u.2)) ∙ u.1
+
+  -- and each at some place
+  pub told_all : (y : StepName) → IsTaken s y → (k : ℕ) × (d : Deed) × IsAt es k d × (d.part ≡ part.Print) × (name_told d ≡ y)
+  told_all y h =
+      let t = step_of_name y h in
+      let d = itself m args limits ok taken log z legal t.0 in
+      (
+        place_of t.0,
+        d,
+        stands m args limits ok taken log z legal t.0 (place_of t.0) d (told_itself t.0),
+        refl,
+        sym (name_is t.0 (place_of t.0) d (told_itself t.0)) ∙ t.1,
+      )
 
 -- ---- one span
 

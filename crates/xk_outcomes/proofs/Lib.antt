@@ -3,6 +3,7 @@ mod PrivateStepLemmas
 pub mod FoundLemmas
 mod AlikeLemmas
 mod RestLemmas
+mod CheckpointLemmas
 mod EntriesLemmas
 mod LookupLemmas
 pub mod FollowLemmas
@@ -14,6 +15,3 @@ mod PathLemmas
 mod NumberingLemmas
 pub mod PlainRunLemmas
 pub mod LoneOutcomeLemmas
-mod ExpectedLemmas
-mod HoldingLemmas
-mod TextLemmas

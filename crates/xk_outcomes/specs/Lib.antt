@@ -7,6 +7,7 @@ pub mod Alikeness
 pub mod Links
 pub mod Search
 pub mod Explored
+pub mod Checkpoints
 pub mod Entries
 pub mod Rising
 pub mod Listing
@@ -14,6 +15,3 @@ pub mod Listed
 pub mod PlainRuns
 pub mod LoneOutcomes
 pub mod Numbering
-pub mod Text
-pub mod Expected
-pub mod Texts

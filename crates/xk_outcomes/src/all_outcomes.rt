@@ -57,7 +57,7 @@ impl Limit {
     }
 
     /// The limit of a first look: this one, or a small one where that is less.
-    pub(crate) fn early(self) -> Limit
+    pub fn early(self) -> Limit
         ensures { result.outcomes ≤ self.outcomes }
     {
         Limit {

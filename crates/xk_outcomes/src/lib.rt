@@ -2,10 +2,9 @@
 #![tactic(auto)]
 
 mod all_outcomes;
+mod checkpoint;
 mod entries;
-mod expected;
 mod found;
-mod holding;
 mod listed;
 mod listing;
 mod lone_runs;
@@ -13,16 +12,12 @@ mod order;
 mod paths;
 mod plain_runs;
 mod private_steps;
-mod reading;
+mod run;
 mod search;
-mod text;
 
 pub use all_outcomes::{Limit, explored_in, listed_in, outcome_sets, outcomes, outcomes_as};
 pub use entries::Entries;
-pub use holding::{Held, Verdict, expected_outcomes};
 pub use listing::{Outcome, Outcomes};
 pub use lone_runs::lone_outcome;
 pub use order::Order;
-pub use reading::ListFault;
 pub use search::Explored;
-pub use text::{is_whole, outcomes_text};

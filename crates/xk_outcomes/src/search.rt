@@ -37,12 +37,12 @@ fn behind(before: &[i64], all: &[i64]) -> Option<i64>
 
 /// Adds what a step of the activity leads to from here, the one of a number, if it can take one and none like that is there yet; and
 /// the link to it.
-fn try_act(
+fn try_act<'m>(
     alloc: Global,
-    all: &mut Entries<'_>,
+    all: &mut Entries<'m>,
     links: &mut Vec<Edge>,
     number: usize,
-    here: &Found<'_>,
+    here: &Found<'m>,
     act: Act,
 ) -> Result<(), AllocError>
     requires { slice_get all.old.all number ≡ Some here.now }
@@ -62,8 +62,9 @@ fn try_act(
         return Ok(());
     }
     links.reserve(1)?;
-    let next = all.successor(alloc, number, act)?;
+    let next = here.after(alloc, act)?;
     let printed = behind(&here.printed, &next.printed);
+    let count = all.len();
     let to = all.add(alloc, number, act, &next)?;
     links.push_reserved(Edge {
         from: number,
@@ -71,7 +72,10 @@ fn try_act(
         printed,
         to,
     });
-    Ok(())
+    if to < count {
+        return Ok(());
+    }
+    all.keep(to, next)
 }
 
 /// Whether the steps of the activity are tried: it is one of these, if they are told.
@@ -82,12 +86,12 @@ fn is_tried(members: &[bool], act: Act) -> bool
 }
 
 /// The same if steps of the activity are tried.
-fn try_one(
+fn try_one<'m>(
     alloc: Global,
-    all: &mut Entries<'_>,
+    all: &mut Entries<'m>,
     links: &mut Vec<Edge>,
     number: usize,
-    here: &Found<'_>,
+    here: &Found<'m>,
     members: &[bool],
     act: Act,
 ) -> Result<(), AllocError>
@@ -110,12 +114,12 @@ fn try_one(
 }
 
 /// Adds what the steps lead to from here, the one of a number, that are tried.
-fn look_by(
+fn look_by<'m>(
     alloc: Global,
-    all: &mut Entries<'_>,
+    all: &mut Entries<'m>,
     links: &mut Vec<Edge>,
     number: usize,
-    here: &Found<'_>,
+    here: &Found<'m>,
     members: &[bool],
 ) -> Result<(), AllocError>
     requires { slice_get all.old.all number ≡ Some here.now }
@@ -137,13 +141,13 @@ fn look_by(
 }
 
 /// Adds what the steps of a closed set lead to from here, the one of a number, or each step.
-fn look(
+fn look<'m>(
     alloc: Global,
     footprints: &Footprints<'_>,
-    all: &mut Entries<'_>,
+    all: &mut Entries<'m>,
     links: &mut Vec<Edge>,
     number: usize,
-    here: &Found<'_>,
+    here: &Found<'m>,
 ) -> Result<(), AllocError>
     requires there { slice_get all.old.all number ≡ Some here.now }
     requires footprints { footprints.now.module_run ≡ here.now.core.module_run }
@@ -157,17 +161,17 @@ fn look(
     ensures expanded { OnOk result (IsExpanded here.now.core.module_run all.new.like
         all.new.all links.new.items number here.now) }
 {
-    match closed_set(alloc, footprints, here.core.core())? {
+    match closed_set(alloc, footprints, &here.core)? {
         Some(set) => look_by(alloc, all, links, number, here, set.members()),
         None => look_by(alloc, all, links, number, here, &[]),
     }
 }
 
 /// Adds what the steps of a closed set, or all, lead to from the one of a number.
-fn expand(
+fn expand<'m>(
     alloc: Global,
     footprints: &Footprints<'_>,
-    all: &mut Entries<'_>,
+    all: &mut Entries<'m>,
     links: &mut Vec<Edge>,
     number: usize,
 ) -> Result<(), AllocError>
@@ -191,10 +195,10 @@ fn expand(
 }
 
 /// Goes on until nothing is left to look at, or more are kept than the limit says. Whether nothing is left.
-fn search(
+fn search<'m>(
     alloc: Global,
     footprints: &Footprints<'_>,
-    all: &mut Entries<'_>,
+    all: &mut Entries<'m>,
     links: &mut Vec<Edge>,
     limit: usize,
 ) -> Result<bool, AllocError>

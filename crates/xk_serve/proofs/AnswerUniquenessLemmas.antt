@@ -4,7 +4,7 @@ use Rattle.std.proofs.Common.{inr, refl, sym, ap, subst, arith}
 use Rattle.std.specs.Prelude.{◌⊎◌}
 use Rattle.std.proofs.lemmas.Bool.{false≢true}
 use Rattle.std.proofs.lemmas.Option.{none-some, same_Some}
-use Rattle.xk_outcomes.specs.Expected.{stray_line}
+use Rattle.xk_outcome_lists.specs.Expected.{stray_line}
 use Rattle.serde_json.specs.Written.{compact_text}
 use Rattle.xk_types.specs.declared.world.Entry.{Entry}
 use Rattle.xk_types.specs.Acceptance.{IsAccepted}
@@ -78,7 +78,7 @@ Prints Replay m args logged out log =
     IsAccepted m × (numbers : List ℤ) × (steps : ℕ) × (es : List Entry) × IsLogText logged es × IsReplay m args es numbers steps × (out ≡ number_lines numbers ++ ended_line steps) × (log ≡ [])
 Prints (Draw picture) m args logged out log = ⊥
 Prints (Where at) m args logged out log = ⊥
-Prints Races m args logged out log = ⊥
+Prints (Races json) m args logged out log = ⊥
 Prints (Tally seed runs) m args logged out log = ⊥
 Prints (OutcomePage window limit pick) m args logged out log = ⊥
 Prints (Outcomes sets limit pick kept) m args logged out log = IsAccepted m × AreArguments m args
@@ -113,7 +113,7 @@ prints Replay m args logged (done.Ended numbers steps None None) h = (h.0, numbe
 prints Replay m args logged _ h = absurd h
 prints (Draw picture) m args logged d h = absurd h
 prints (Where at) m args logged d h = absurd h
-prints Races m args logged d h = absurd h
+prints (Races json) m args logged d h = absurd h
 prints (Tally seed runs) m args logged d h = absurd h
 prints (OutcomePage window limit pick) m args logged d h = absurd h
 prints (Outcomes sets limit pick kept) m args logged (done.Outcomes t whole log) h = (h.0, h.1.taken)
@@ -139,7 +139,7 @@ prints_accepted (Run (By n) kept) m args logged out log asks h = h.0
 prints_accepted Replay m args logged out log asks h = h.0
 prints_accepted (Draw picture) m args logged out log asks h = absurd h
 prints_accepted (Where at) m args logged out log asks h = absurd h
-prints_accepted Races m args logged out log asks h = absurd h
+prints_accepted (Races json) m args logged out log asks h = absurd h
 prints_accepted (Tally seed runs) m args logged out log asks h = absurd h
 prints_accepted (OutcomePage window limit pick) m args logged out log asks h = absurd h
 prints_accepted (Outcomes sets limit pick kept) m args logged out log asks h = h.0
@@ -162,7 +162,7 @@ prints_taken (Run (By n) kept) m args logged out log run h = h.1
 prints_taken Replay m args logged out log run h = run_taken _ m args h.1 h.2 h.5
 prints_taken (Draw picture) m args logged out log run h = absurd h
 prints_taken (Where at) m args logged out log run h = absurd h
-prints_taken Races m args logged out log run h = absurd h
+prints_taken (Races json) m args logged out log run h = absurd h
 prints_taken (Tally seed runs) m args logged out log run h = absurd h
 prints_taken (OutcomePage window limit pick) m args logged out log run h = absurd h
 prints_taken (Outcomes sets limit pick kept) m args logged out log run h = h.1
@@ -186,7 +186,7 @@ prints_whole (Run way kept) m args logged out log reads h = absurd (false≢true
 prints_whole Replay m args logged out log reads h = (h.3, h.4, replay_whole m args h.1 h.2 h.3 h.5)
 prints_whole (Draw picture) m args logged out log reads h = absurd h
 prints_whole (Where at) m args logged out log reads h = absurd h
-prints_whole Races m args logged out log reads h = absurd h
+prints_whole (Races json) m args logged out log reads h = absurd h
 prints_whole (Tally seed runs) m args logged out log reads h = absurd h
 prints_whole (OutcomePage window limit pick) m args logged out log reads h = absurd h
 prints_whole (Outcomes sets limit pick kept) m args logged out log reads h = absurd (false≢true reads)
@@ -232,7 +232,7 @@ prints_once Replay m args logged out log other kept none p q =
     (p.6 ∙ same_lines p.1 q.1 p.2 q.2 same.0 same.1 ∙ sym q.6, p.7 ∙ sym q.7)
 prints_once (Draw picture) m args logged out log other kept none p q = absurd p
 prints_once (Where at) m args logged out log other kept none p q = absurd p
-prints_once Races m args logged out log other kept none p q = absurd p
+prints_once (Races json) m args logged out log other kept none p q = absurd p
 prints_once (Tally seed runs) m args logged out log other kept none p q = absurd p
 prints_once (OutcomePage window limit pick) m args logged out log other kept none p q = absurd p
 prints_once (Outcomes sets limit pick written) m args logged out log other kept none p q = absurd none
@@ -259,7 +259,7 @@ said_determined (Run way kept) kind file bytes said f h one = h
 said_determined Replay kind file bytes said f h one = h
 said_determined (Draw picture) kind file bytes said f h one = h
 said_determined (Where at) kind file bytes said f h one = h
-said_determined Races kind file bytes said f h one = h
+said_determined (Races json) kind file bytes said f h one = h
 said_determined (Tally seed runs) kind file bytes said f h one = h
 said_determined (OutcomePage window limit pick) kind file bytes said f h one = h
 said_determined (Outcomes sets limit pick kept) kind file bytes said f h one = h
@@ -310,7 +310,7 @@ telling_stands : (what : Doing) (kind : Form) (file bytes : List ℕ) (m : Modul
 telling_stands (Draw picture) kind file bytes m args logged told f reads h told_by may not4 =
     let of = h.1 in picture_stands picture m args logged of.0 f of.1 of.2 of.3 told_by may not4
 telling_stands (Where at) kind file bytes m args logged told f reads h told_by may not4 = text_stands at m args logged h.1.1.0 f h.1.1.1 told_by may not4
-telling_stands Races kind file bytes m args logged told f reads h told_by may not4 = false≢true reads
+telling_stands (Races json) kind file bytes m args logged told f reads h told_by may not4 = false≢true reads
 telling_stands (Tally seed count) kind file bytes m args logged told f reads h told_by may not4 = false≢true reads
 telling_stands (OutcomePage window limit pick) kind file bytes m args logged told f reads h told_by may not4 = false≢true reads
 telling_stands (Explain json) kind file bytes m args logged told f reads h told_by may not4 = false≢true reads
@@ -329,7 +329,7 @@ telling_taken : (what : Doing) (kind : Form) (file bytes : List ℕ) (m : Module
     → IsTelling what kind file bytes m args logged told → AreArguments m args
 telling_taken (Draw picture) kind file bytes m args logged told run h = subst (AreArguments m) h.1.2.given h.1.2.leads.0
 telling_taken (Where at) kind file bytes m args logged told run h = h.1.0
-telling_taken Races kind file bytes m args logged told run h = run_taken _ m args h.1.0 h.1.1 h.1.3
+telling_taken (Races json) kind file bytes m args logged told run h = run_taken _ m args h.1.0 h.1.1 h.1.3
 telling_taken (Tally seed runs) kind file bytes m args logged told run h = h.1
 telling_taken (OutcomePage window limit pick) kind file bytes m args logged told run h = h.1.3.found.taken
 telling_taken (Explain json) kind file bytes m args logged told run h = absurd (false≢true run)
@@ -350,7 +350,7 @@ telling_unprinted (Explain json) kind file bytes m args logged told out log h p 
 telling_unprinted Listing kind file bytes m args logged told out log h p = p
 telling_unprinted (Draw picture) kind file bytes m args logged told out log h p = p
 telling_unprinted (Where at) kind file bytes m args logged told out log h p = p
-telling_unprinted Races kind file bytes m args logged told out log h p = p
+telling_unprinted (Races json) kind file bytes m args logged told out log h p = p
 telling_unprinted (Tally seed runs) kind file bytes m args logged told out log h p = p
 telling_unprinted (OutcomePage window limit pick) kind file bytes m args logged told out log h p = p
 telling_unprinted Check kind file bytes m args logged told out log h p = h
@@ -367,7 +367,7 @@ telling_accepted : (what : Doing) (kind : Form) (file bytes : List ℕ) (m : Mod
 telling_accepted (Explain json) kind file bytes m args logged told asks h = h.0
 telling_accepted (Draw picture) kind file bytes m args logged told asks h = h.0
 telling_accepted (Where at) kind file bytes m args logged told asks h = h.0
-telling_accepted Races kind file bytes m args logged told asks h = h.0
+telling_accepted (Races json) kind file bytes m args logged told asks h = h.0
 telling_accepted (Tally seed runs) kind file bytes m args logged told asks h = h.0
 telling_accepted (OutcomePage window limit pick) kind file bytes m args logged told asks h = h.0
 telling_accepted Listing kind file bytes m args logged told asks h = absurd (false≢true asks)
@@ -419,7 +419,7 @@ lists_alone (Run way kept) lists = absurd (false≢true lists)
 lists_alone Replay lists = absurd (false≢true lists)
 lists_alone (Draw picture) lists = absurd (false≢true lists)
 lists_alone (Where at) lists = absurd (false≢true lists)
-lists_alone Races lists = absurd (false≢true lists)
+lists_alone (Races json) lists = absurd (false≢true lists)
 lists_alone (Tally seed runs) lists = absurd (false≢true lists)
 lists_alone (OutcomePage window limit pick) lists = absurd (false≢true lists)
 
@@ -507,7 +507,7 @@ determined (Run (By n) kept) one = absurd one
 determined Replay one = tt
 determined (Draw picture) one = tt
 determined (Where at) one = tt
-determined Races one = tt
+determined (Races json) one = tt
 determined (Tally seed runs) one = tt
 determined (OutcomePage window limit pick) one = absurd one
 determined (Outcomes sets limit pick kept) one = absurd one
@@ -527,7 +527,7 @@ determined_status (Run (By n) kept) one = absurd one
 determined_status Replay one = tt
 determined_status (Draw picture) one = tt
 determined_status (Where at) one = tt
-determined_status Races one = tt
+determined_status (Races json) one = tt
 determined_status (Tally seed runs) one = tt
 determined_status (OutcomePage window limit pick) one = absurd one
 determined_status (Outcomes sets limit pick kept) one = absurd one

@@ -20,6 +20,7 @@ explains (command.Replay log) json e = cc
 explains (command.Chart log) json e = cc
 explains (command.Events log) json e = cc
 explains (command.Lanes log from to svg path) json e = cc
+explains (command.Rounds log) json e = cc
 explains (command.Page log from to) json e = cc
 explains (command.OutcomePage pick limit from to) json e = cc
 explains (command.Where log at) json e = cc

@@ -29,9 +29,9 @@ lanes_noted from to true false = refl
 lanes_noted from to svg true = refl
 
 -- races are those of a log where one is given
-pub races_noted : (given : Bool) → given ≡ may_note (races_by given)
-races_noted false = refl
-races_noted true = refl
+pub races_noted : (json given : Bool) → given ≡ may_note (races_by json given)
+races_noted json false = refl
+races_noted json true = refl
 
 -- what has none has none before any line
 pub unnoted : (what : Doing) (bytes : List ℕ) (f : Fault) → may_note what ≡ false → note_of what bytes f ≡ []

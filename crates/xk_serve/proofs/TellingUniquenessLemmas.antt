@@ -20,7 +20,7 @@ use Rattle.xk_answers.specs.Results.{Check, Compile, Count, Doing, Draw, Expecte
 use Rattle.xk_answers.specs.Results.{Json, Listing, OutcomePage, Outcomes, Races, Replay, Run, Tally, Where}
 use Rattle.xk_program.specs.Origins.{HaveOrigins, HaveSharedNames, IsByNames, IsByOrigins}
 use Rattle.xk_answers.specs.Explanation.{HaveHints, IsListed, Tale, acceptance_told, event_values_so_far, events_so_far, image_so_far}
-use Rattle.xk_answers.specs.Explanation.{lanes_so_far, page_so_far, path_told, races_told, span_told, where_told}
+use Rattle.xk_answers.specs.Explanation.{lanes_so_far, page_so_far, path_told, races_told, rounds_told, span_told, where_told}
 use Rattle.xk_answers.specs.Explanation.{why_told}
 use Rattle.xk_jobs.specs.declared.job.Order.TheVariants as order
 use Rattle.xk_program.specs.Programs.{Gives}
@@ -91,14 +91,16 @@ picture_once (picture.Image window) kind file bytes m args es last a b given h k
     by_names_once kind bytes m (image_so_far bytes window m es last) a b given h k
 picture_once (picture.Path form window) kind file bytes m args es last a b given h k =
     by_names_once kind bytes m (path_told form bytes window m es last) a b given h k
+picture_once picture.Rounds kind file bytes m args es last a b given h k =
+    by_names_once kind bytes m (rounds_told bytes m es last) a b given h k
 picture_once (picture.Page window) kind file bytes m args es last a b given h k =
     by_names_once kind bytes m (page_so_far file bytes window m es last) a b given h k
 picture_once picture.Span kind file bytes m args es last a b given h k =
     by_origins_once kind bytes m (span_told bytes m args es) a b given h k
 picture_once (picture.Why step) kind file bytes m args es last a b given h k =
     by_names_once kind bytes m (why_told bytes step m args es) a b given h k
-picture_once picture.Races kind file bytes m args es last a b given h k =
-    by_names_once kind bytes m (races_told bytes m args es) a b given h k
+picture_once (picture.Races json) kind file bytes m args es last a b given h k =
+    by_names_once kind bytes m (races_told json bytes m args es) a b given h k
 
 -- what has one status is told as one text
 pub telling_once : (what : Doing) (kind : Form) (file bytes : List ℕ) (m : ModuleValue) (args : List ℤ) (logged : List ℕ) (a b : Tale)
@@ -121,12 +123,12 @@ telling_once (Where at) kind file bytes m args logged a b one given h k =
     let same = text_once logged there.0 here.0 there.1 here.1 in
     by_names_once kind bytes m (where_told bytes m args at here.0) a b given here.2
     (subst (λ es. IsByNames kind bytes (where_told bytes m args at es) b) same there.2)
-telling_once Races kind file bytes m args logged a b one given h k =
+telling_once (Races json) kind file bytes m args logged a b one given h k =
     let here = h.1 in
     let there = k.1 in
     let same = logged_once order.First m args there.0 here.0 there.1 here.1 there.2 here.2 there.3 here.3 in
-    by_names_once kind bytes m (races_told bytes m args here.2) a b given here.4
-    (subst (λ es. IsByNames kind bytes (races_told bytes m args es) b) same.2 there.4)
+    by_names_once kind bytes m (races_told json bytes m args here.2) a b given here.4
+    (subst (λ es. IsByNames kind bytes (races_told json bytes m args es) b) same.2 there.4)
 telling_once (Tally seed runs) kind file bytes m args logged a b one given h k = same_tale (tally_once m args seed runs a.0 b.0 h.2.0 k.2.0) (h.2.1 ∙ sym k.2.1)
 telling_once Check kind file bytes m args logged a b one given h k = absurd h
 telling_once Compile kind file bytes m args logged a b one given h k = absurd h

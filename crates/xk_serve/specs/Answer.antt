@@ -16,7 +16,7 @@ use Rattle.xk_answers.specs.declared.job_result.Done.{Done}
 use Rattle.xk_answers.specs.declared.picture.Picture.TheVariants as picture
 use Rattle.xk_program.specs.declared.fault.Fault.{Fault}
 use Rattle.xk_program.specs.declared.fault.Fault.TheVariants as fault
-use Rattle.xk_outcomes.specs.Expected.{stray_line}
+use Rattle.xk_outcome_lists.specs.Expected.{stray_line}
 use Rattle.xk_answers.specs.Printed.{done_log, done_text, done_status}
 use Rattle.xk_program.specs.Lines.{status_of}
 use Rattle.xk_serve.specs.Notes.{told_of}
@@ -75,15 +75,16 @@ wants_whole (Where at) = false
 wants_whole (Draw picture) = is_of_whole picture
 wants_whole _ = true
 
--- races are those of the run that a log has, if one is given, and else of the run in the order `first`
-abbrev pub races_by : Bool → Doing
-races_by true = Draw picture.Races
-races_by false = Races
+-- races, as a text or as a JSON value, are those of the run that a log has, if one is given, and else of the run in the order `first`
+abbrev pub races_by : Bool → Bool → Doing
+races_by json true = Draw (picture.Races json)
+races_by json false = Races json
 
 -- what is told as JSON: a value for each step of the run that a log has, or one value
 abbrev pub values_doing : Values → Doing
 values_doing (values.Run given path) = Json (RunShown (way_given given) (is_some path))
 values_doing (values.Events log) = Draw picture.EventValues
+values_doing (values.Races path) = races_by true (is_some path)
 values_doing (values.Outcomes limit pick path sets) = Json (OutcomesShown sets limit (unwrap_or pick 1) (is_some path))
 values_doing (values.Expected list limit sets) = Json (ExpectedShown sets limit)
 
@@ -101,9 +102,10 @@ doing_of (command.Lanes log from to svg path) = Draw (lanes_given from to svg pa
 doing_of (command.Page log from to) = Draw (picture.Page (window_given from to))
 doing_of (command.OutcomePage pick limit from to) = OutcomePage (window_given from to) limit pick
 doing_of (command.Where log at) = Where at
+doing_of (command.Rounds log) = Draw picture.Rounds
 doing_of (command.Span log) = Draw picture.Span
 doing_of (command.Why log step) = Draw (picture.Why step)
-doing_of (command.Races path) = races_by (is_some path)
+doing_of (command.Races path) = races_by false (is_some path)
 doing_of (command.Tally seed runs) = Tally seed runs
 doing_of (command.Outcomes limit pick path sets) = Outcomes sets limit (unwrap_or pick 1) (is_some path)
 doing_of (command.Count limit sets) = Count sets limit

@@ -19,12 +19,12 @@ use crate::tally::tallied;
 use crate::values::answer_values;
 use std::alloc::{AllocError, Global};
 use xk_answers::{
-    Done, Finished, Picture, counted, drawn, held, lanes_given, listing, paged, raced, replayed,
-    searched, stood, window_given,
+    Done, Finished, Picture, drawn, lanes_given, listing, raced, replayed, stood, window_given,
 };
 use xk_bounds::Verified;
 use xk_jobs::{Command, Drive, Job, Order};
 use xk_module::write_module;
+use xk_outcome_answers::{counted, held, paged, searched};
 use xk_program::{Fault, Program, accepted, program_by, runnable};
 use xk_types::{Module, Source};
 
@@ -78,6 +78,10 @@ pub(crate) fn answer<
             let lanes = lanes_given(from, to, svg, path);
             drawn(alloc, lanes, job.file, program, arguments, log_in)
         }
+        Command::Rounds { .. } => {
+            let rounds = Picture::Rounds;
+            drawn(alloc, rounds, job.file, program, arguments, log_in)
+        }
         Command::Page { from, to, .. } => {
             let page = Picture::Page(window_given(from, to));
             drawn(alloc, page, job.file, program, arguments, log_in)
@@ -103,10 +107,10 @@ pub(crate) fn answer<
         Command::Races { log } => {
             let given = log.is_some();
             if given {
-                let races = Picture::Races;
+                let races = Picture::Races(false);
                 return drawn(alloc, races, job.file, program, arguments, log_in);
             }
-            raced(alloc, program, arguments)
+            raced(alloc, false, program, arguments)
         }
         Command::Tally { seed, runs } => tallied(alloc, seed, runs, program.module, arguments),
         Command::Outcomes {
@@ -123,9 +127,7 @@ pub(crate) fn answer<
             program.module,
             arguments,
         ),
-        Command::Count { limit, sets } => {
-            counted(alloc, sets, limit, program.module, arguments)
-        }
+        Command::Count { limit, sets } => { counted(alloc, sets, limit, program.module, arguments) }
         Command::Expected { limit, sets, .. } => {
             held(alloc, sets, limit, program.module, arguments, log_in)
         }

@@ -85,6 +85,7 @@ fn may_note(command: &Command<'_>) -> bool
     match command {
         Command::Events { .. }
         | Command::Lanes { .. }
+        | Command::Rounds { .. }
         | Command::Page { .. }
         | Command::Where { .. }
         | Command::Span { .. }
@@ -107,11 +108,13 @@ fn may_note(command: &Command<'_>) -> bool
 }
 
 /// The same of what is told as JSON.
+#[tactic(auto, using(crate::proofs::NoteLemmas::races_noted))]
 fn may_note_values(values: &Values<'_>) -> bool
     ensures { result ≡ may_note (values_doing values.now) }
 {
     match values {
         Values::Events { .. } => true,
+        Values::Races { log } => log.is_some(),
         Values::Run { .. } | Values::Outcomes { .. } | Values::Expected { .. } => false,
     }
 }

@@ -22,10 +22,12 @@ ghost use Rattle.xk_serve.specs.Devices.{AgainstLog, IsListReadToLimit, read_of}
 
 use crate::commands::run_by;
 use std::alloc::{AllocError, Global};
-use xk_answers::{Done, Finished, LONGEST_LIST, Picture, drawn, kept_log};
+use xk_answers::{Done, Finished, Picture, drawn, raced};
 use xk_bounds::Verified;
 use xk_jobs::{Drive, Job, Order, Values};
-use xk_outcomes::{Limit, ListFault, Outcome, Verdict, expected_outcomes, is_whole, outcomes_as};
+use xk_outcome_answers::{LONGEST_LIST, kept_log};
+use xk_outcome_lists::{ListFault, Verdict, expected_outcomes, is_whole};
+use xk_outcomes::{Limit, Outcome, outcomes_as};
 use xk_program::{Fault, Program, read_front, runnable};
 use xk_show_json::{held_json, outcomes_json, run_json};
 use xk_types::{Module, Source};
@@ -66,6 +68,14 @@ pub(crate) fn answer_values<
         Values::Events { .. } => {
             let events = Picture::EventValues;
             drawn(alloc, events, job.file, program, arguments, log_in)
+        }
+        Values::Races { log } => {
+            let given = log.is_some();
+            if given {
+                let races = Picture::Races(true);
+                return drawn(alloc, races, job.file, program, arguments, log_in);
+            }
+            raced(alloc, true, program, arguments)
         }
         Values::Outcomes {
             limit,

@@ -62,16 +62,20 @@ value_member key (Some i) = (key, integer_value i) ∷ []
 
 -- ---- values
 
--- `{"act":1,"after":3,"before":2,"column":9,"event":"add","line":7,"name":"total","place":5,"shared":0,"step":9,"unit":1}`
-abbrev pub event_value : PlacesValue → Option NamesValue → Account → Data
-event_value p names a = object_of (
+-- all that is told of a step
+abbrev pub event_groups : PlacesValue → Option NamesValue → Account → List Group
+event_groups p names a =
     step_members a.step
     ∷ origin_members (origin_of p a.step.unit a.step.place)
     ∷ operand_member a.step.activities a.step.event
     ∷ subject_members names a.subject
     ∷ value_member (codes "before") a.before
     ∷ value_member (codes "after") a.after
-    ∷ [])
+    ∷ []
+
+-- `{"act":1,"after":3,"before":2,"column":9,"event":"add","line":7,"name":"total","place":5,"shared":0,"step":9,"unit":1}`
+abbrev pub event_value : PlacesValue → Option NamesValue → Account → Data
+event_value p names a = object_of (event_groups p names a)
 
 -- the line of a step that other activities can see
 abbrev pub value_if_seen : PlacesValue → Option NamesValue → Account → List ℕ

@@ -1,14 +1,16 @@
 //! What others see of the steps of a run, a value for each step.
 
 ghost use Rattle.std.specs.Prelude.{◌≡◌, ◌++◌, IfOk, None, OnOk, Some, map, option_map};
-ghost use Rattle.xk_json.specs.Objects.{Gains, json_line};
+ghost use Rattle.serde_json.specs.View.{view};
+ghost use Rattle.xk_json.specs.Objects.{Gains, GainsAll, json_line};
 ghost use Rattle.xk_show_events.specs.Events.{event_name, no_text, origin_of, places_of};
 ghost use Rattle.xk_show_names.specs.ClockNames.{names_in_run};
-ghost use Rattle.xk_show_json.specs.Events.{event_value, event_values, module_event_values, operand_member};
-ghost use Rattle.xk_show_json.specs.Events.{origin_members, source_event_values, step_members, value_if_seen};
+ghost use Rattle.xk_show_json.specs.Events.{event_groups, event_value, event_values, module_event_values};
+ghost use Rattle.xk_show_json.specs.Events.{operand_member, origin_members, source_event_values, step_members, value_if_seen};
 
 use crate::endings::push_ending;
 use crate::subjects::{put_subject, put_value};
+use serde_json::Value;
 use std::alloc::{AllocError, Global};
 use xk_core::Core;
 use xk_json::Object;
@@ -84,6 +86,43 @@ fn put_operand(
     }
 }
 
+/// Adds all that is told of a step.
+fn put_event(
+    alloc: Global,
+    object: &mut Object,
+    places: &Places<'_>,
+    names: Option<&Names<'_>>,
+    account: &Account,
+) -> Result<(), AllocError>
+    ensures { OnOk result (GainsAll
+        (event_groups places.now (option_map (λ n. n.now) names.entry) account.now)
+        object.old object.new) }
+{
+    let step = &account.step;
+    put_step(alloc, object, step)?;
+    put_origin(alloc, object, places.origin(step.unit, step.place))?;
+    put_operand(alloc, object, step.activities, step.event)?;
+    put_subject(alloc, object, names, account.subject)?;
+    put_value(alloc, object, "before", account.before)?;
+    put_value(alloc, object, "after", account.after)
+}
+
+/// A step of a run, as a value: `{"act":1,"after":3,"before":2,"column":9,"event":"add","line":7,"name":"total","place":5,"shared":0,
+/// "step":9,"unit":1}`. Without names, as of a module, it has none. Err where memory was refused.
+pub fn event_value(
+    alloc: Global,
+    places: &Places<'_>,
+    names: Option<&Names<'_>>,
+    account: &Account,
+) -> Result<Value, AllocError>
+    ensures { IfOk result (λ v. view v
+        ≡ event_value places.now (option_map (λ n. n.now) names.entry) account.now) }
+{
+    let mut object = Object::new(alloc);
+    put_event(alloc, &mut object, places, names, account)?;
+    Ok(object.into_value())
+}
+
 /// The line of a step.
 fn event_json(
     alloc: Global,
@@ -94,14 +133,8 @@ fn event_json(
     ensures { IfOk result (λ v. v.items ≡ json_line
         (event_value places.now (option_map (λ n. n.now) names.entry) account.now)) }
 {
-    let step = &account.step;
     let mut object = Object::new(alloc);
-    put_step(alloc, &mut object, step)?;
-    put_origin(alloc, &mut object, places.origin(step.unit, step.place))?;
-    put_operand(alloc, &mut object, step.activities, step.event)?;
-    put_subject(alloc, &mut object, names, account.subject)?;
-    put_value(alloc, &mut object, "before", account.before)?;
-    put_value(alloc, &mut object, "after", account.after)?;
+    put_event(alloc, &mut object, places, names, account)?;
     object.line(alloc)
 }
 

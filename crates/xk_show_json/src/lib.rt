@@ -7,6 +7,7 @@ mod outcomes;
 mod runs;
 mod subjects;
 
-pub use events::{module_event_values, source_event_values};
+pub use events::{event_value, module_event_values, source_event_values};
 pub use outcomes::{held_json, outcomes_json};
 pub use runs::run_json;
+pub use subjects::put_subject;

@@ -9,8 +9,9 @@ use std::alloc::{AllocError, Global};
 use xk_json::Object;
 use xk_show_names::{Names, Subject, clock_word, shared_word};
 
-/// Adds the clock or the shared number that a step was about, by its number, and by its name where names are known.
-pub(crate) fn put_subject(
+/// Adds the clock or the shared number that a step was about, by its number, and by its name where names are known. Err where memory
+/// was refused.
+pub fn put_subject(
     alloc: Global,
     object: &mut Object,
     names: Option<&Names<'_>>,

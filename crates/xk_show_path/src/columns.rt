@@ -11,9 +11,9 @@ use xk_unit_origins::UnitOrigins;
 
 /// By which names things are told, if by any, and how wide columns are.
 #[derive(Drop)]
-pub(crate) struct Columns<'t> {
-    pub(crate) names: Option<Names<'t>>,
-    pub(crate) grid: Grid,
+pub struct Columns<'t> {
+    pub names: Option<Names<'t>>,
+    pub grid: Grid,
 }
 
 /// Those of a source text's module, whose shared numbers have these names.
@@ -41,7 +41,7 @@ fn source_columns<'t>(
 }
 
 /// For these steps of a run: with names, where those of the shared numbers are known. Err where memory was refused.
-pub(crate) fn columns_for<'t>(
+pub fn columns_for<'t>(
     alloc: Global,
     places: &Places<'_>,
     origins: &[UnitOrigins<'_>],

@@ -10,4 +10,6 @@ mod picture;
 mod rounds;
 mod shapes;
 
+pub use columns::{Columns, columns_for};
 pub use forms::{PathForm, form_of, module_path, source_path};
+pub use rounds::Rounds;

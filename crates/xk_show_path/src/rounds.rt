@@ -14,7 +14,7 @@ use xk_span_summary::number_at;
 
 /// The round of each step of a run, and the steps of a critical path.
 #[derive(Drop)]
-pub(crate) struct Rounds {
+pub struct Rounds {
     /// The round of each step, in their order.
     rounds: Vec<usize>,
     /// The steps of the path, in their order.
@@ -56,7 +56,7 @@ fn rounds_by(alloc: Global, times: &[usize], deeds: &[Deed]) -> Result<Vec<usize
 
 impl Rounds {
     /// Those of a run. Err where memory was refused.
-    pub(crate) fn of(alloc: Global, ended: &Ended<'_>) -> Result<Rounds, AllocError>
+    pub fn of(alloc: Global, ended: &Ended<'_>) -> Result<Rounds, AllocError>
         ensures { IfOk result (λ r. r ≡ rounds_of_run
             ended.now.module.now ended.now.core.world.arguments ended.now.log.items) }
     {
@@ -72,14 +72,14 @@ impl Rounds {
     }
 
     /// The steps of the path, in their order.
-    pub(crate) fn path(&self) -> &[RunStep]
+    pub fn path(&self) -> &[RunStep]
         ensures { result.now ≡ self.now.path }
     {
         &self.path
     }
 
     /// The round of the step of this number.
-    pub(crate) fn round_of(&self, number: u64) -> usize
+    pub fn round_of(&self, number: u64) -> usize
         ensures { result ≡ round_of self.now number }
     {
         number_at(&self.rounds, number.saturating_sub(1) as usize)

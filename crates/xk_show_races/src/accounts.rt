@@ -17,7 +17,7 @@ use xk_show_events::{LegalRun, is_seen};
 use xk_show_names::{Account, Recount, recount_run};
 
 /// Steps by their numbers.
-pub(crate) type ByNumber = BTreeMap<u64, Account>;
+pub type ByNumber = BTreeMap<u64, Account>;
 
 /// Adds the numbers of both steps of a race.
 #[tactic(auto, using(crate::proofs::StepLemmas::numbers_added))]
@@ -119,11 +119,7 @@ fn by_number(alloc: Global, accounts: &[Account]) -> Result<ByNumber, AllocError
 
 /// The steps of these races of a run, by their numbers, and what they were about. The log is played again for it, and
 /// no other step is kept. Err where memory was refused.
-pub(crate) fn racing(
-    alloc: Global,
-    races: &[Race],
-    ended: &Ended<'_>,
-) -> Result<ByNumber, AllocError>
+pub fn racing(alloc: Global, races: &[Race], ended: &Ended<'_>) -> Result<ByNumber, AllocError>
     ensures { IfOk result (λ map. AreRacing map races.now (seen_accounts
         ended.now.module.now ended.now.core.world.arguments ended.now.log.items)) }
 {

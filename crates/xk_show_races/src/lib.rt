@@ -7,4 +7,5 @@ mod report;
 mod source_lines;
 mod text;
 
+pub use accounts::{ByNumber, racing};
 pub use report::source_races;

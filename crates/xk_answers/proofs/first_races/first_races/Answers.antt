@@ -22,9 +22,9 @@ returns c = λ form bytes given.
         (
           origins,
           (given.1 refl).0,
-          h ∙ ap (λ t. races_told t e.module.now e.core.world.arguments e.log.items shared origins) given.0
-              ∙ ap (λ m. races_told bytes m e.core.world.arguments e.log.items shared origins) is.same_module
-              ∙ ap (λ args. races_told bytes c.args.verified.now args e.log.items shared origins) is.same_arguments,
+          h ∙ ap (λ t. races_told c.args.json t e.module.now e.core.world.arguments e.log.items shared origins) given.0
+              ∙ ap (λ m. races_told c.args.json bytes m e.core.world.arguments e.log.items shared origins) is.same_module
+              ∙ ap (λ args. races_told c.args.json bytes c.args.verified.now args e.log.items shared origins) is.same_arguments,
         ),
       ),
     ))

@@ -121,6 +121,20 @@ returns-in-OutcomePage-clause-fault g c =
     c.as_slice-arguments.result.now c.paged.result is c.as_slice-arguments.ensures.value refl c.in_ok-program.ensures.module
     c.paged.ensures.fault
 
+pub returns-in-Rounds-clause-done : goal.returns-in-Rounds-clause-done
+returns-in-Rounds-clause-done g c =
+    done_of_run (task_of c.args.job.now) c.args.bytes.now (g.L.Source.remaining c.args.log_in.now) _
+    (Draw picture.Rounds) c.as_slice-arguments.result.now c.drawn-in-Rounds.result (ap doing_of c.in-Rounds.is)
+    c.as_slice-arguments.ensures.value refl
+    c.in_ok-program.ensures.module (c.drawn-in-Rounds.ensures.done c.args.job.now.form c.args.bytes.now
+    (c.in_ok-program.ensures.from.0, λ _. c.in_ok-program.ensures.from.1 (c.shows_origins.ensures ∙ ap shows_origins c.in-Rounds.is)))
+
+pub returns-in-Rounds-clause-fault : goal.returns-in-Rounds-clause-fault
+returns-in-Rounds-clause-fault g c =
+    against_picture (task_of c.args.job.now) c.args.bytes.now (g.L.Source.remaining c.args.log_in.now) _ _ _
+    picture.Rounds c.as_slice-arguments.result.now c.drawn-in-Rounds.result (ap doing_of c.in-Rounds.is) c.as_slice-arguments.ensures.value
+    c.in_ok-program.ensures.module c.drawn-in-Rounds.ensures.fault c.drawn-in-Rounds.ensures.stands
+
 pub returns-in-Span-clause-done : goal.returns-in-Span-clause-done
 returns-in-Span-clause-done g c =
     done_of_run (task_of c.args.job.now) c.args.bytes.now (g.L.Source.remaining c.args.log_in.now) _
@@ -161,23 +175,23 @@ returns-in-Where-clause-fault g c =
 
 pub returns-then-given-clause-done : goal.returns-then-given-clause-done
 returns-then-given-clause-done g c =
-    let is = ap doing_of c.in-Races.is ∙ ap races_by (sym c.is_some-given.ensures ∙ c.if-given.true) in
-    done_of_run (task_of c.args.job.now) c.args.bytes.now (g.L.Source.remaining c.args.log_in.now) _ (Draw picture.Races) c.as_slice-arguments.result.now c.drawn-then-given.result is c.as_slice-arguments.ensures.value refl c.in_ok-program.ensures.module (c.drawn-then-given.ensures.done c.args.job.now.form c.args.bytes.now (c.in_ok-program.ensures.from.0, λ _. c.in_ok-program.ensures.from.1 (c.shows_origins.ensures ∙ ap shows_origins c.in-Races.is)))
+    let is = ap doing_of c.in-Races.is ∙ ap (races_by false) (sym c.is_some-given.ensures ∙ c.if-given.true) in
+    done_of_run (task_of c.args.job.now) c.args.bytes.now (g.L.Source.remaining c.args.log_in.now) _ (Draw (picture.Races false)) c.as_slice-arguments.result.now c.drawn-then-given.result is c.as_slice-arguments.ensures.value refl c.in_ok-program.ensures.module (c.drawn-then-given.ensures.done c.args.job.now.form c.args.bytes.now (c.in_ok-program.ensures.from.0, λ _. c.in_ok-program.ensures.from.1 (c.shows_origins.ensures ∙ ap shows_origins c.in-Races.is)))
 
 pub returns-else-given-clause-done : goal.returns-else-given-clause-done
 returns-else-given-clause-done g c =
-    let is = ap doing_of c.in-Races.is ∙ ap races_by (sym c.is_some-given.ensures ∙ c.if-given.false) in
-    done_of_told (task_of c.args.job.now) c.args.bytes.now (g.L.Source.remaining c.args.log_in.now) _ Races c.as_slice-arguments.result.now c.raced.result is c.as_slice-arguments.ensures.value c.in_ok-program.ensures.module (λ logged. c.raced.ensures.done c.args.job.now.form c.args.job.now.file.now c.args.bytes.now logged (c.in_ok-program.ensures.from.0, λ _. c.in_ok-program.ensures.from.1 (c.shows_origins.ensures ∙ ap shows_origins c.in-Races.is)))
+    let is = ap doing_of c.in-Races.is ∙ ap (races_by false) (sym c.is_some-given.ensures ∙ c.if-given.false) in
+    done_of_told (task_of c.args.job.now) c.args.bytes.now (g.L.Source.remaining c.args.log_in.now) _ (Races false) c.as_slice-arguments.result.now c.raced.result is c.as_slice-arguments.ensures.value c.in_ok-program.ensures.module (λ logged. c.raced.ensures.done c.args.job.now.form c.args.job.now.file.now c.args.bytes.now logged (c.in_ok-program.ensures.from.0, λ _. c.in_ok-program.ensures.from.1 (c.shows_origins.ensures ∙ ap shows_origins c.in-Races.is)))
 
 pub returns-then-given-clause-fault : goal.returns-then-given-clause-fault
 returns-then-given-clause-fault g c =
-    let is = ap doing_of c.in-Races.is ∙ ap races_by (sym c.is_some-given.ensures ∙ c.if-given.true) in
-    against_picture (task_of c.args.job.now) c.args.bytes.now (g.L.Source.remaining c.args.log_in.now) _ _ _ picture.Races c.as_slice-arguments.result.now c.drawn-then-given.result is c.as_slice-arguments.ensures.value c.in_ok-program.ensures.module c.drawn-then-given.ensures.fault c.drawn-then-given.ensures.stands
+    let is = ap doing_of c.in-Races.is ∙ ap (races_by false) (sym c.is_some-given.ensures ∙ c.if-given.true) in
+    against_picture (task_of c.args.job.now) c.args.bytes.now (g.L.Source.remaining c.args.log_in.now) _ _ _ (picture.Races false) c.as_slice-arguments.result.now c.drawn-then-given.result is c.as_slice-arguments.ensures.value c.in_ok-program.ensures.module c.drawn-then-given.ensures.fault c.drawn-then-given.ensures.stands
 
 pub returns-else-given-clause-fault : goal.returns-else-given-clause-fault
 returns-else-given-clause-fault g c =
-    let is = ap doing_of c.in-Races.is ∙ ap races_by (sym c.is_some-given.ensures ∙ c.if-given.false) in
-    against_run_of (task_of c.args.job.now) c.args.bytes.now (g.L.Source.remaining c.args.log_in.now) _ _ Races c.as_slice-arguments.result.now c.raced.result is c.as_slice-arguments.ensures.value refl c.in_ok-program.ensures.module c.raced.ensures.fault
+    let is = ap doing_of c.in-Races.is ∙ ap (races_by false) (sym c.is_some-given.ensures ∙ c.if-given.false) in
+    against_run_of (task_of c.args.job.now) c.args.bytes.now (g.L.Source.remaining c.args.log_in.now) _ _ (Races false) c.as_slice-arguments.result.now c.raced.result is c.as_slice-arguments.ensures.value refl c.in_ok-program.ensures.module c.raced.ensures.fault
 
 pub returns-in-Tally-clause-done : goal.returns-in-Tally-clause-done
 returns-in-Tally-clause-done g c =

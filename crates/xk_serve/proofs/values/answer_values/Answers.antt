@@ -1,10 +1,10 @@
 use Rattle.std.proofs.Common.{◌∙◌, refl, ap, sym}
 use Rattle.std.specs.Prelude.{Bool, unwrap_or}
 use Rattle.xk_answers.specs.declared.picture.Picture.TheVariants as picture
-use Rattle.xk_answers.specs.Results.{Doing, Draw, ExpectedShown, Json, OutcomesShown, RunShown, way_given}
+use Rattle.xk_answers.specs.Results.{Doing, Draw, ExpectedShown, Json, OutcomesShown, Races, RunShown, way_given}
 use Rattle.xk_jobs.specs.CommandAnswers.{have_places}
-use Rattle.xk_serve.specs.Answer.{task_of, values_doing}
-use Rattle.xk_serve.proofs.TaskLemmas.{against_list, against_picture, against_run_of, done_of_any, done_of_list, done_of_run}
+use Rattle.xk_serve.specs.Answer.{races_by, task_of, values_doing}
+use Rattle.xk_serve.proofs.TaskLemmas.{against_list, against_picture, against_run_of, done_of_any, done_of_list, done_of_run, done_of_told}
 use Rattle.xk_serve.proofs.values.answer_values.Goals as goal
 
 pub returns-in-Run-clause-done : goal.returns-in-Run-clause-done
@@ -33,6 +33,35 @@ returns-in-Events-clause-fault g c =
     against_picture (task_of c.args.job.now) c.args.bytes.now (g.L.Source.remaining c.args.log_in.now) _ _ _ picture.EventValues
     c.as_slice-arguments.result.now c.drawn.result (c.requires.doing ∙ ap values_doing c.in-Events.is) c.as_slice-arguments.ensures.value
     c.requires.module c.drawn.ensures.fault c.drawn.ensures.stands
+
+pub returns-then-given-clause-done : goal.returns-then-given-clause-done
+returns-then-given-clause-done g c =
+    let is = c.requires.doing ∙ ap values_doing c.in-Races.is ∙ ap (races_by true) (sym c.is_some-given.ensures ∙ c.if-given.true) in
+    done_of_run (task_of c.args.job.now) c.args.bytes.now (g.L.Source.remaining c.args.log_in.now) _ (Draw (picture.Races true))
+    c.as_slice-arguments.result.now c.drawn-then-given.result is c.as_slice-arguments.ensures.value refl c.requires.module
+    (c.drawn-then-given.ensures.done c.args.job.now.form c.args.bytes.now
+    (c.requires.from.0, λ _. c.requires.from.1 (ap have_places c.in-Races.is)))
+
+pub returns-else-given-clause-done : goal.returns-else-given-clause-done
+returns-else-given-clause-done g c =
+    let is = c.requires.doing ∙ ap values_doing c.in-Races.is ∙ ap (races_by true) (sym c.is_some-given.ensures ∙ c.if-given.false) in
+    done_of_told (task_of c.args.job.now) c.args.bytes.now (g.L.Source.remaining c.args.log_in.now) _ (Races true)
+    c.as_slice-arguments.result.now c.raced.result is c.as_slice-arguments.ensures.value c.requires.module
+    (λ logged. c.raced.ensures.done c.args.job.now.form c.args.job.now.file.now c.args.bytes.now logged
+    (c.requires.from.0, λ _. c.requires.from.1 (ap have_places c.in-Races.is)))
+
+pub returns-then-given-clause-fault : goal.returns-then-given-clause-fault
+returns-then-given-clause-fault g c =
+    let is = c.requires.doing ∙ ap values_doing c.in-Races.is ∙ ap (races_by true) (sym c.is_some-given.ensures ∙ c.if-given.true) in
+    against_picture (task_of c.args.job.now) c.args.bytes.now (g.L.Source.remaining c.args.log_in.now) _ _ _ (picture.Races true)
+    c.as_slice-arguments.result.now c.drawn-then-given.result is c.as_slice-arguments.ensures.value c.requires.module
+    c.drawn-then-given.ensures.fault c.drawn-then-given.ensures.stands
+
+pub returns-else-given-clause-fault : goal.returns-else-given-clause-fault
+returns-else-given-clause-fault g c =
+    let is = c.requires.doing ∙ ap values_doing c.in-Races.is ∙ ap (races_by true) (sym c.is_some-given.ensures ∙ c.if-given.false) in
+    against_run_of (task_of c.args.job.now) c.args.bytes.now (g.L.Source.remaining c.args.log_in.now) _ _ (Races true)
+    c.as_slice-arguments.result.now c.raced.result is c.as_slice-arguments.ensures.value refl c.requires.module c.raced.ensures.fault
 
 pub returns-in-Outcomes-clause-done : goal.returns-in-Outcomes-clause-done
 returns-in-Outcomes-clause-done g c =

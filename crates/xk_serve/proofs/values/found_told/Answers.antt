@@ -1,6 +1,6 @@
 use Rattle.std.proofs.Common.{◌∙◌, ◌&&◌, map, not, refl, ap}
 use Rattle.std.specs.Prelude.{is_some}
-use Rattle.xk_outcomes.specs.Text.{outcomes_text}
+use Rattle.xk_outcome_lists.specs.Text.{outcomes_text}
 use Rattle.xk_json.specs.Objects.{json_line}
 use Rattle.xk_show_json.specs.Outcomes.{outcomes_value}
 use Rattle.xk_answers.specs.Results.{kept_log, lists_of}

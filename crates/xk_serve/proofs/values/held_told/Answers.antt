@@ -1,6 +1,6 @@
 use Rattle.std.proofs.Common.{◌≡◌, Some, subst, ap, ◌∙◌}
 use Rattle.xk_json.specs.Objects.{json_line}
-use Rattle.xk_outcomes.specs.Expected.{AreExpected, IsStrayIn, stray_line}
+use Rattle.xk_outcome_lists.specs.Expected.{AreExpected, IsStrayIn, stray_line}
 use Rattle.xk_show_json.specs.Outcomes.{held_value}
 use Rattle.xk_answers.proofs.LogLemmas.{front_of, some_each}
 use Rattle.xk_serve.proofs.values.held_told.Goals as goal

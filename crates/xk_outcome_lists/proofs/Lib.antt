@@ -1,0 +1,3 @@
+mod ExpectedLemmas
+mod HoldingLemmas
+mod TextLemmas

@@ -1,6 +1,0 @@
-use Rattle.xk_outcomes.specs.Expected.{AreTold}
-use Rattle.xk_outcomes.proofs.holding.first_untold.Given as goal
-
--- those before are told
-abbrev pub invariant-loop-place : goal.invariant-loop-place
-invariant-loop-place l = AreTold l.expected l.list l.place

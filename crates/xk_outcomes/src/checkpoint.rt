@@ -1,0 +1,29 @@
+//! Which of those that were found are kept whole.
+
+ghost use Rattle.std.specs.Prelude.{◌≡◌, ◌-◌, nat_le};
+ghost use Rattle.xk_outcomes.specs.Checkpoints.{stride};
+
+use crate::found::Found;
+
+/// How many steps are taken again at most to get from a checkpoint to where those of one that was found begin: to take them costs some
+/// times what a copy of a core with a few activities does.
+const STRIDE: u64 = 1_000;
+
+/// One that was found, whole.
+#[derive(Drop)]
+pub struct Checkpoint<'m> {
+    /// Its number.
+    pub number: usize,
+    /// What was found.
+    pub found: Found<'m>,
+}
+
+/// Whether so many steps lead from one to another that this is to be kept whole.
+pub fn is_far(from: &Found<'_>, to: &Found<'_>) -> bool
+    ensures { result
+        ≡ nat_le stride (to.now.core.world.steps - from.now.core.world.steps) }
+{
+    let before = from.core.steps_done();
+    let steps = to.core.steps_done();
+    steps.saturating_sub(before) >= STRIDE
+}

@@ -1,0 +1,4 @@
+pub mod TableLemmas
+pub mod RowLemmas
+pub mod RoundLaneLemmas
+mod RoundExamples

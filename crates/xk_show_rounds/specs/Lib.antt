@@ -1,0 +1,2 @@
+pub mod RoundRows
+pub mod RoundLanes
