@@ -104,6 +104,7 @@ def first_questions(text: bytes, form: tuple[str, ...]) -> Iterator[Question]:
     yield Question(("races", "--json", *form, "mine"), text)
     yield Question(("outcomes", *form, "--limit", "50", "--log", "log", "mine"), text)
     yield Question(("outcomes", *form, "--limit", "50", "--expect", "beside", "mine"), text, LIST)
+    yield Question(("outcomes", *form, "--limit", "50", "--count", "mine"), text)
 
 
 def further_questions(text: bytes, form: tuple[str, ...], log: bytes) -> Iterator[Question]:

@@ -99,6 +99,8 @@ def runs() -> None:
 def searches() -> None:
     found = x10clock.outcomes(IN_STEP)
     want("outcomes", (len(found.all), found.complete), (4, True))
+    want("count", x10clock.count(IN_STEP), x10clock.Count(4, True))
+    want("a count that isn't all", x10clock.count(RACING, limit=1).complete, False)
     picked = x10clock.outcomes(IN_STEP, pick=3)
     want("its log", x10clock.replay(IN_STEP, picked.log).printed, picked.all[2].printed)
     listed = harness.call([sys.executable, "-c", "print('outcome 1 prints 7')"]).out

@@ -68,7 +68,8 @@ AcceptsSo program told = (m : ModuleValue) × Gives form.Source program m × IsA
 
 -- the text gives no module, for it breaks this rule there
 abbrev pub IsFrontDiagnosis : List ℕ → Diagnosis → Type 0
-IsFrontDiagnosis program told = (f : FrontFault) × GivesNoModule form.Source program (fault.Front f) × (told ≡ placed (front_told f) (front_position program f))
+IsFrontDiagnosis program told =
+    (f : FrontFault) × GivesNoModule form.Source program (fault.Front f) × (told ≡ placed (front_told f) (front_position program f))
 
 -- the text gives a module whose instructions have these origins, and this stands against it
 abbrev pub RefusesCode : List ℕ → Option (List UnitOrigins) → Fault → Type 0
