@@ -96,11 +96,9 @@ listed_exact sets m args list count shown distinct all many =
     }
 
 -- the lone outcome is one
-pub lone_exact : (m : ModuleValue) (args : List ℤ) (o : Outcome) → AreShownIn order.Printed m args (o ∷ [])
-    → AreAllIn order.Printed m args (o ∷ [])
+pub lone_exact : (m : ModuleValue) (args : List ℤ) (o : Outcome) → AreShownIn order.Printed m args (o ∷ []) → AreAllIn order.Printed m args (o ∷ [])
     → AreAsMany false m args 1
-lone_exact m args o shown all =
-    listed_exact false m args (o ∷ []) 1 (printed_shown m args (o ∷ []) shown) (alone_distinct o) all refl
+lone_exact m args o shown all = listed_exact false m args (o ∷ []) 1 (printed_shown m args (o ∷ []) shown) (alone_distinct o) all refl
 
 -- as many as there are, are at least so many
 pub exact_least : (sets : Bool) (m : ModuleValue) (args : List ℤ) (count : ℕ) → AreAsMany sets m args count → AreAtLeast sets m args count
@@ -145,8 +143,7 @@ place_of [] x h = absurd h
 place_of (z ∷ xs) x (inl same) = (0, z, refl, same)
 place_of (z ∷ xs) x (inr later) = let p = place_of xs x later in (suc p.0, p.1, p.2, p.3)
 
-module _ (m : ModuleValue) (args : List ℤ) (all : List FoundValue) (links : List Edge)
-    (played : ArePlayed (opening_core m args) all links) where
+module _ (m : ModuleValue) (args : List ℤ) (all : List FoundValue) (links : List Edge) (played : ArePlayed (opening_core m args) all links) where
   -- what is read is printed by the steps that lead there
   read_printed : (n : ℕ) (acts : List ℕ) (numbers : List ℤ) → Reads (graph links (ends all)) n 0 acts numbers
       → (schedule : List ℕ) × IsOutcome m args schedule numbers
@@ -191,8 +188,7 @@ module _ (m : ModuleValue) (args : List ℤ) (all : List FoundValue) (links : Li
         let h = found schedule o.last o.legal o.over in
         let led = h.5 in
         let reads = read_to all links h.0 h.1 (printed m schedule (opening m args)) h.2 h.3 led in
-        let here = subst (Reads (graph links (ends all)) (led.0 + 0) 0 (led.1 ++ [])) o.prints reads in
-        let p = place_of are.lists numbers (are.all (led.0 + 0) (led.1 ++ []) numbers here) in
+        let p = place_of are.lists numbers (are.all (led.0 + 0) (led.1 ++ []) numbers (subst (Reads (graph links (ends all)) (led.0 + 0) 0 (led.1 ++ [])) o.prints reads)) in
         (p.0, p.1, p.2, p.3);
     many = are.many;
   }

@@ -3,7 +3,8 @@
 ghost use Rattle.std.specs.Prelude.{◌≡◌, ℕ, ◌<◌, ◌++◌, ◌+◌, length, false, true, map, slice_get, IfOk, IfSome, IfNone, Some, codes, decimal, string_bytes, List, None, IfErr};
 ghost use Rattle.xk_outcomes.specs.declared.listing.Outcome.{Outcome as AnOutcome};
 ghost use Rattle.xk_types.specs.World.{AreArguments};
-ghost use Rattle.xk_outcome_lists.specs.Expected.{AreExpected, AreHeld, AreTold, IsFirstUntold, IsStrayIn, IsTold, stray_line, told_by, verdict_of};
+ghost use Rattle.xk_outcome_lists.specs.Expected.{AreExpected, AreHeld, AreTold, IsFirstUntold, IsStrayIn};
+ghost use Rattle.xk_outcome_lists.specs.Expected.{IsTold, stray_line, told_by, verdict_of};
 ghost use Rattle.xk_io.specs.Row.{numbers_text};
 
 use crate::expected::Expected;

@@ -7,13 +7,11 @@ use Rattle.std.proofs.lemmas.List.Sums.{fold_push}
 use Rattle.std.proofs.lemmas.Option.{get_or_from_slice_get, slice_get-get_or, none-some, same_Some, slice_get_within}
 use Rattle.xk_types.specs.Schedule.{all_ended}
 use Rattle.xk_core.specs.Core.{CoreValue}
-use Rattle.xk_outcomes.specs.declared.checkpoint.Checkpoint.{Checkpoint}
 use Rattle.xk_outcomes.specs.declared.entries.Edge.{Edge}
 use Rattle.xk_outcomes.specs.Alikeness.{Alikeness}
 use Rattle.xk_outcomes.specs.Entries.{AreBehind, AreEntries, led_by, with_edge}
 use Rattle.xk_outcomes.specs.Found.{FoundValue, along, first_found, next}
 use Rattle.xk_outcomes.specs.Search.{AreFound, AreSettled, Has, IsFound, IsSettled, found_digest}
-use Rattle.xk_outcomes.proofs.CheckpointLemmas.{checkpoints_grown}
 use Rattle.xk_outcomes.proofs.FoundLemmas.{along_push, settled_first, settled_found, settled_next}
 use Rattle.xk_types.proofs.ListLemmas.{each_push}
 use Rattle.xk_readings.proofs.ListLemmas.{place}
@@ -148,11 +146,11 @@ led_push start edges more e x new one there is =
     ∙ ap (λ (y : FoundValue). led_by start edges ++ next e.act y ∷ []) (get_or_from_slice_get (led_by start edges) e.from x (first_found start) there)
     ∙ ap (λ (y : FoundValue). led_by start edges ++ y ∷ []) (sym is)
 
-pub entries_push : (start : CoreValue) (like : Alikeness) (edges more : List Edge) (digests longer : List ℕ) (over still : List Bool) (checkpoints : List Checkpoint)
-    → (e : Edge) (x new : FoundValue) → AreEntries start like edges digests over checkpoints → more ≡ edges ++ e ∷ [] → longer ≡ digests ++ found_digest like new ∷ []
+pub entries_push : (start : CoreValue) (like : Alikeness) (edges more : List Edge) (digests longer : List ℕ) (over still : List Bool) (e : Edge) (x new : FoundValue)
+    → AreEntries start like edges digests over → more ≡ edges ++ e ∷ [] → longer ≡ digests ++ found_digest like new ∷ []
     → still ≡ over ++ all_ended new.core.world ∷ [] → slice_get (led_by start edges) e.from ≡ Some x → new ≡ next e.act x
-    → (Has like (led_by start edges) new.core.world new.printed → ⊥) → AreEntries start like more longer still checkpoints
-entries_push start like edges more digests longer over still checkpoints e x new were one digest ended there is fresh =
+    → (Has like (led_by start edges) new.core.world new.printed → ⊥) → AreEntries start like more longer still
+entries_push start like edges more digests longer over still e x new were one digest ended there is fresh =
     let grown = led_push start edges more e x new one there is in
     record {
       root = were.root;
@@ -160,7 +158,6 @@ entries_push start like edges more digests longer over still checkpoints e x new
       behind = λ k z at. by k z (place edges e k z (subst (λ (l : List Edge). slice_get l k ≡ Some z) one at));
       digests_are = digests_push like (led_by start edges) (led_by start more) digests longer new grown digest were.digests_are;
       over_are = ends_push (led_by start edges) (led_by start more) over still new grown ended were.over_are;
-      checkpoints_are = checkpoints_grown (led_by start edges) (led_by start more) new checkpoints grown were.checkpoints_are;
       different = different_push like (led_by start edges) (led_by start more) new grown fresh were.different;
     }
   where

@@ -3,7 +3,6 @@ mod PrivateStepLemmas
 pub mod FoundLemmas
 mod AlikeLemmas
 mod RestLemmas
-mod CheckpointLemmas
 mod EntriesLemmas
 mod LookupLemmas
 pub mod FollowLemmas

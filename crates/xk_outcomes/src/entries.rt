@@ -1,26 +1,21 @@
-//! Those that were found, of most of which only how they were found is kept: from which, and by whose step.
+//! Those that were found, of which only how they were found is kept: from which, and by whose step.
 
-ghost use Rattle.std.specs.Prelude.{◌≡◌, ◌<◌, ◌⊎◌, true, false, length, slice_get, slice_set, IfNone, IfOk, IfSome, OnErr, Some, List};
+ghost use Rattle.std.specs.Prelude.{◌≡◌, ◌<◌, true, false, length, slice_get, IfNone, IfOk, IfSome, OnErr, Some, List};
 ghost use Rattle.std.specs.Bool.{Decides};
 ghost use Rattle.xk_types.specs.Bound.{steps_bound};
-ghost use Rattle.xk_types.specs.Schedule.{all_ended};
 ghost use Rattle.xk_readings.specs.declared.edge.Edge.{Edge as Link};
 ghost use Rattle.xk_readings.specs.Graphs.{graph};
 ghost use Rattle.xk_readings.specs.Readings.{IsLongest};
 ghost use Rattle.xk_liveness.specs.Liveness.{IsLiveness};
 ghost use Rattle.xk_outcomes.specs.Alikeness.{live_by};
-ghost use Rattle.xk_outcomes.specs.Checkpoints.{IsCheckpoint};
 ghost use Rattle.xk_outcomes.specs.Entries.{first_entry};
 ghost use Rattle.xk_outcomes.specs.Found.{FoundValue, along, first_found, next, through};
 ghost use Rattle.xk_outcomes.specs.Links.{AreLinked, ends};
 ghost use Rattle.xk_outcomes.specs.Listing.{ArePlayed};
-ghost use Rattle.xk_outcomes.specs.Search.{AreDifferent, AreFound, AreSettled, Has, IsAdded, IsAt, IsFound, IsFoundBy};
-ghost use Rattle.xk_outcomes.specs.Search.{IsGrown, IsThere, found_digest};
+ghost use Rattle.xk_outcomes.specs.Search.{AreDifferent, AreFound, AreSettled, Has, IsAdded, IsAt, IsFound, IsGrown, IsThere, found_digest};
 
-use crate::checkpoint::{Checkpoint, is_far};
 use crate::found::{Found, beginning};
 use crate::order::{Order, key_of};
-use crate::run::Run;
 use std::alloc::{AllocError, Global};
 use std::marker::Model;
 use xk_core::Core;
@@ -37,18 +32,9 @@ pub struct Edge {
     pub act: Act,
 }
 
-/// Steps from one that was found to another.
-#[derive(Drop)]
-struct Way {
-    // where they begin
-    from: usize,
-    // by whom, the last one first
-    acts: Vec<Act>,
-}
-
-/// Those that were found, numbered from 0. The first is found by private steps alone. A core is kept with the first, and with one to
-/// which many steps lead from where one is kept: whoever wants to look at another is led there again from such a checkpoint. No two are in
-/// worlds that are alike where slots are live, unless the order tells them apart by what was printed by then.
+/// Those that were found, numbered from 0. The first is found by private steps alone. No core is kept with one: whoever wants to look
+/// at it is led there again. No two are in worlds that are alike where slots are live, unless the order tells them apart by what was
+/// printed by then.
 #[derive(Drop)]
 pub struct Entries<'m> {
     start: Core<'m>,
@@ -58,10 +44,6 @@ pub struct Entries<'m> {
     digests: Digests,
     // of each whether all have ended in it
     over: Vec<bool>,
-    // the first one, and those that are far from the checkpoint before them
-    checkpoints: Vec<Checkpoint<'m>>,
-    // of each the place of the last checkpoint on the way there
-    nearest: Vec<usize>,
 }
 
 impl<'m> Model for Entries<'m> {
@@ -76,8 +58,7 @@ impl<'m> Model for Entries<'m> {
     } };
 
     ghost invariant = { λ e. AreEntries e.start
-        (record { order = e.order; slots = e.live }) e.edges.items e.digests e.over.items
-        e.checkpoints.items };
+        (record { order = e.order; slots = e.live }) e.edges.items e.digests e.over.items };
 }
 
 /// The digest of one.
@@ -124,15 +105,6 @@ fn is_same(
     are_alike(live, &new.core, &x.core)
 }
 
-/// Another place stands at a number, if one does.
-fn replace(places: &mut Vec<usize>, number: usize, place: usize)
-    ensures { places.new.items ≡ slice_set places.old.items number place }
-{
-    if let Some(old) = places.get_mut(number) {
-        *old = place;
-    }
-}
-
 impl<'m> Entries<'m> {
     /// The first one alone. Err where memory was refused.
     pub fn open(alloc: Global, order: Order, start: Core<'m>) -> Result<Entries<'m>, AllocError>
@@ -143,13 +115,13 @@ impl<'m> Entries<'m> {
         let live = LiveSlots::of(alloc, start.module())?;
         // For the invariant: that it has all live slots.
         let _verified = live.module();
-        let found = beginning(alloc, &start)?;
-        let over = Vec::from_array(alloc, [found.core.ended()])?;
-        let digest = found_digest(alloc, order, &live, &found)?;
+        let first = beginning(alloc, &start)?;
+        let over = first.core.ended();
+        let digest = found_digest(alloc, order, &live, &first)?;
+        drop(first);
         let mut digests = Digests::new(alloc);
         digests.push(digest)?;
-        let nearest = Vec::from_array(alloc, [0])?;
-        let checkpoints = Vec::from_array(alloc, [Checkpoint { number: 0, found }])?;
+        let over = Vec::from_array(alloc, [over])?;
         Ok(Entries {
             start,
             order,
@@ -157,8 +129,6 @@ impl<'m> Entries<'m> {
             edges: Vec::new(alloc),
             digests,
             over,
-            checkpoints,
-            nearest,
         })
     }
 
@@ -199,98 +169,55 @@ impl<'m> Entries<'m> {
         verified.steps()
     }
 
-    /// The way to one from another that stands on it, or else from the first.
-    fn way_to(&self, alloc: Global, number: usize, stop: usize) -> Result<Way, AllocError>
+    /// The steps that lead to one from the first, the last of which stands first.
+    fn way_to(&self, alloc: Global, number: usize) -> Result<Vec<Act>, AllocError>
         requires { number < length self.now.all }
-        ensures from { IfOk result (λ way. (way.from ≡ 0) ⊎ (way.from ≡ stop)) }
-        ensures leads { IfOk result (λ way. (x : FoundValue)
-            → slice_get self.now.all way.from ≡ Some x
-            → slice_get self.now.all number ≡ Some (along way.acts.items x)) }
+        ensures { IfOk result (λ way. slice_get self.now.all number
+            ≡ Some (along way.items (first_found self.now.start))) }
     {
-        let mut acts = Vec::new(alloc);
+        let mut way = Vec::new(alloc);
         let mut at = number;
-        while at > 0 && at != stop {
+        while at > 0 {
             let edge = self.edges[at - 1];
-            acts.push(edge.act)?;
+            way.push(edge.act)?;
             at = edge.from;
         }
-        Ok(Way { from: at, acts })
+        Ok(way)
     }
 
-    /// The last checkpoint on the way to the one of a number.
-    fn checkpoint(&self, number: usize) -> &Checkpoint<'m>
-        ensures { IsCheckpoint self.now.all result.now }
-    {
-        let last = self.checkpoints.len() - 1;
-        let place = self.nearest.get(number).copied().unwrap_or(0);
-        &self.checkpoints[place.min(last)]
-    }
-
-    /// A copy of what a checkpoint keeps, if it is the one of a number, or else of the first one.
-    fn copy_at(
-        &self,
-        alloc: Global,
-        checkpoint: &Checkpoint<'m>,
-        number: usize,
-    ) -> Result<Found<'m>, AllocError>
-        requires checkpoint { IsCheckpoint self.now.all checkpoint.now }
-        requires number { (number ≡ 0) ⊎ (number ≡ checkpoint.now.number) }
-        ensures { IfOk result (λ x. slice_get self.now.all number ≡ Some x) }
-    {
-        if number == checkpoint.number {
-            return checkpoint.found.copy(alloc);
-        }
-        self.checkpoints[0].found.copy(alloc)
-    }
-
-    /// The one of a number: a core is led there again from a checkpoint.
+    /// The one of a number: a core is led there again.
     pub fn get(&self, alloc: Global, number: usize) -> Result<Found<'m>, AllocError>
         requires { number < length self.now.all }
         ensures { IfOk result (λ x. slice_get self.now.all number ≡ Some x) }
     {
-        let checkpoint = self.checkpoint(number);
-        let way = self.way_to(alloc, number, checkpoint.number)?;
-        let mut x = self.copy_at(alloc, checkpoint, way.from)?;
-        match x.go_along(way.acts) {
+        let way = self.way_to(alloc, number)?;
+        let mut x = beginning(alloc, &self.start)?;
+        match x.go_along(way) {
             Ok(()) => Ok(x),
             Err(_) => Err(AllocError),
         }
     }
 
-    /// Whether all have ended in the one of a number.
-    pub fn is_over(&self, number: usize) -> bool
+    /// What a step of the activity leads to from the one of a number, and private steps behind it.
+    pub fn successor(&self, alloc: Global, number: usize, act: Act) -> Result<Found<'m>, AllocError>
         requires { number < length self.now.all }
-        ensures { (x : FoundValue) → slice_get self.now.all number ≡ Some x
-            → result ≡ all_ended x.core.world }
+        ensures { IfOk result (λ y. (x : FoundValue) → slice_get self.now.all number ≡ Some x
+            → y ≡ next act x) }
     {
-        self.over[number]
-    }
-
-    /// A run to the one of a number.
-    pub fn run_to(&self, alloc: Global, number: usize) -> Result<Run<'m>, AllocError>
-        requires { number < length self.now.all }
-        ensures to { IfOk result (λ run. slice_get self.now.all number ≡ Some run.to) }
-        ensures found { IfOk result
-            (λ run. IsFoundBy self.now.start run.schedule.items run.to) }
-    {
-        let way = self.way_to(alloc, number, 0)?;
-        let mut run = Run::begin(alloc, &self.start)?;
-        match run.go_along(way.acts) {
-            Ok(()) => Ok(run),
+        let mut x = self.get(alloc, number)?;
+        match x.go_on(act) {
+            Ok(()) => Ok(x),
             Err(_) => Err(AllocError),
         }
     }
 
-    /// The run by steps of these activities from the first one, and private steps behind each.
-    pub fn led(&self, alloc: Global, acts: &[u32]) -> Result<Run<'m>, AllocError>
-        ensures to { IfOk result
-            (λ run. run.to ≡ through acts.now (first_found self.now.start)) }
-        ensures found { IfOk result
-            (λ run. IsFoundBy self.now.start run.schedule.items run.to) }
+    /// Where steps of these activities lead from the first one, and private steps behind each.
+    pub fn led(&self, alloc: Global, acts: &[u32]) -> Result<Found<'m>, AllocError>
+        ensures { IfOk result (λ x. x ≡ through acts.now (first_found self.now.start)) }
     {
-        let mut run = Run::begin(alloc, &self.start)?;
-        match run.go_through(acts) {
-            Ok(()) => Ok(run),
+        let mut x = beginning(alloc, &self.start)?;
+        match x.go_through(acts) {
+            Ok(()) => Ok(x),
             Err(_) => Err(AllocError),
         }
     }
@@ -359,32 +286,11 @@ impl<'m> Entries<'m> {
             None => {}
         }
         let number = self.len();
-        let nearest = self.nearest.get(from).copied().unwrap_or(0);
         self.edges.reserve(1)?;
         self.over.reserve(1)?;
-        self.nearest.reserve(1)?;
         self.digests.push(digest)?;
         self.edges.push_reserved(Edge { from, act });
         self.over.push_reserved(new.core.ended());
-        self.nearest.push_reserved(nearest);
         Ok(number)
-    }
-
-    /// Keeps the one of a number as a checkpoint, if it is far from the one before it. Err where memory was refused: it isn't kept then.
-    pub fn keep(&mut self, number: usize, x: Found<'m>) -> Result<(), AllocError>
-        requires { slice_get self.old.all number ≡ Some x }
-        ensures { self.new ≡ self.old }
-    {
-        if !is_far(&self.checkpoint(number).found, &x) {
-            return Ok(());
-        }
-        let place = self.checkpoints.len();
-        match self.checkpoints.push(Checkpoint { number, found: x }) {
-            Ok(()) => {
-                replace(&mut self.nearest, number, place);
-                Ok(())
-            }
-            Err(_) => Err(AllocError),
-        }
     }
 }

@@ -1,9 +1,8 @@
 //! Worlds that are found one from another.
 
-ghost use Rattle.std.specs.Prelude.{◌≡◌, [], IfOk, OnOk};
-ghost use Rattle.xk_types.specs.Schedule.{is_enabled};
+ghost use Rattle.std.specs.Prelude.{◌≡◌, IfOk, OnOk};
 ghost use Rattle.xk_outcomes.specs.PrivateSteps.{has_private_step};
-ghost use Rattle.xk_outcomes.specs.Found.{along, at_rest, first_found, least_private, next, one_more};
+ghost use Rattle.xk_outcomes.specs.Found.{along, at_rest, first_found, least_private, next, one_more, through};
 
 use crate::private_steps::has_private_step;
 use std::alloc::{AllocError, Global};
@@ -12,14 +11,15 @@ use xk_core::Core;
 use xk_scheduler::keep_printed;
 use xk_types::Act;
 
-/// A world that was found: a core there, and the numbers that were printed by then. It keeps no schedule, which may be long, so
-/// that a copy takes no more time than a core is large.
+/// A world that was found: a core there, the numbers that were printed by then, and a schedule that leads there and prints them.
 #[derive(Drop)]
 pub struct Found<'m> {
-    /// Where a schedule led.
+    /// Where its schedule leads.
     pub core: Core<'m>,
     /// What was printed by then.
     pub printed: Vec<i64>,
+    /// Who took a step after whom.
+    pub schedule: Vec<u32>,
 }
 
 impl<'m> Model for Found<'m> {
@@ -27,11 +27,15 @@ impl<'m> Model for Found<'m> {
 
     ghost Value = { FoundValue };
 
-    ghost view = { λ x. record { core = x.core; printed = x.printed.items } };
+    ghost view = { λ x. record {
+      core = x.core;
+      printed = x.printed.items;
+      schedule = x.schedule.items;
+    } };
 }
 
 /// The least activity that has a private step, if one has.
-pub(crate) fn private_act(core: &Core<'_>) -> Option<Act>
+fn private_act(core: &Core<'_>) -> Option<Act>
     ensures { result ≡ least_private core.now }
 {
     for a in 0..core.activities() {
@@ -43,39 +47,17 @@ pub(crate) fn private_act(core: &Core<'_>) -> Option<Act>
 }
 
 impl<'m> Found<'m> {
-    /// Before any step.
-    pub(crate) fn open(alloc: Global, start: &Core<'m>) -> Result<Found<'m>, AllocError>
-        requires { start.now.world.steps ≡ 0 }
-        ensures { IfOk result (λ x. x ≡ record { core = start.now; printed = [] }) }
-    {
-        let core = Core::open(alloc, start.module(), start.arguments())?;
-        Ok(Found {
-            core,
-            printed: Vec::new(alloc),
-        })
-    }
-
-    /// The same once more.
-    pub fn copy(&self, alloc: Global) -> Result<Found<'m>, AllocError>
-        ensures { IfOk result (λ x. x ≡ self.now) }
-    {
-        let printed = self.printed.to_vec(alloc)?;
-        let core = self.core.copy()?;
-        Ok(Found { core, printed })
-    }
-
-    /// One step of the activity, if it can take one. Whether it could.
-    pub(crate) fn step(&mut self, act: Act) -> Result<bool, AllocError>
-        ensures more { OnOk result (self.new ≡ one_more act self.old) }
-        ensures taken { IfOk result (λ taken. taken
-            ≡ is_enabled self.old.core.module_run self.old.core.world act) }
+    /// One step of the activity, if it can take one.
+    fn step(&mut self, act: Act) -> Result<(), AllocError>
+        ensures { OnOk result (self.new ≡ one_more act self.old) }
     {
         if !self.core.enabled(act) {
-            return Ok(false);
+            return Ok(());
         }
         let event = self.core.step(act)?;
         keep_printed(&mut self.printed, event)?;
-        Ok(true)
+        self.schedule.push(act.0)?;
+        Ok(())
     }
 
     /// Private steps, as long as there is one.
@@ -85,9 +67,7 @@ impl<'m> Found<'m> {
         let most = self.core.module().steps();
         for turn in 0..most {
             match private_act(&self.core) {
-                Some(act) => {
-                    self.step(act)?;
-                }
+                Some(act) => self.step(act)?,
                 None => return Ok(()),
             }
         }
@@ -103,15 +83,14 @@ impl<'m> Found<'m> {
         Ok(())
     }
 
-    /// What a step of the activity leads to from here, and private steps behind it.
-    pub fn after(&self, alloc: Global, act: Act) -> Result<Found<'m>, AllocError>
-        ensures { IfOk result (λ x. x ≡ next act self.now) }
+    /// Steps of these activities, the first of which stands first, and private steps behind each.
+    pub fn go_through(&mut self, acts: &[u32]) -> Result<(), AllocError>
+        ensures { OnOk result (self.new ≡ through acts.now self.old) }
     {
-        let mut x = self.copy(alloc)?;
-        match x.go_on(act) {
-            Ok(()) => Ok(x),
-            Err(_) => Err(AllocError),
+        for act in acts {
+            self.go_on(Act(*act))?;
         }
+        Ok(())
     }
 
     /// Steps of these activities, the last of which stands first, and private steps behind each.
@@ -130,7 +109,12 @@ pub fn beginning<'m>(alloc: Global, start: &Core<'m>) -> Result<Found<'m>, Alloc
     requires { start.now.world.steps ≡ 0 }
     ensures { IfOk result (λ x. x ≡ first_found start.now) }
 {
-    let mut first = Found::open(alloc, start)?;
+    let core = Core::open(alloc, start.module(), start.arguments())?;
+    let mut first = Found {
+        core,
+        printed: Vec::new(alloc),
+        schedule: Vec::new(alloc),
+    };
     match first.settle() {
         Ok(()) => Ok(first),
         Err(_) => Err(AllocError),

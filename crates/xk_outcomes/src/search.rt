@@ -37,12 +37,12 @@ fn behind(before: &[i64], all: &[i64]) -> Option<i64>
 
 /// Adds what a step of the activity leads to from here, the one of a number, if it can take one and none like that is there yet; and
 /// the link to it.
-fn try_act<'m>(
+fn try_act(
     alloc: Global,
-    all: &mut Entries<'m>,
+    all: &mut Entries<'_>,
     links: &mut Vec<Edge>,
     number: usize,
-    here: &Found<'m>,
+    here: &Found<'_>,
     act: Act,
 ) -> Result<(), AllocError>
     requires { slice_get all.old.all number ≡ Some here.now }
@@ -62,9 +62,8 @@ fn try_act<'m>(
         return Ok(());
     }
     links.reserve(1)?;
-    let next = here.after(alloc, act)?;
+    let next = all.successor(alloc, number, act)?;
     let printed = behind(&here.printed, &next.printed);
-    let count = all.len();
     let to = all.add(alloc, number, act, &next)?;
     links.push_reserved(Edge {
         from: number,
@@ -72,10 +71,7 @@ fn try_act<'m>(
         printed,
         to,
     });
-    if to < count {
-        return Ok(());
-    }
-    all.keep(to, next)
+    Ok(())
 }
 
 /// Whether the steps of the activity are tried: it is one of these, if they are told.
@@ -86,12 +82,12 @@ fn is_tried(members: &[bool], act: Act) -> bool
 }
 
 /// The same if steps of the activity are tried.
-fn try_one<'m>(
+fn try_one(
     alloc: Global,
-    all: &mut Entries<'m>,
+    all: &mut Entries<'_>,
     links: &mut Vec<Edge>,
     number: usize,
-    here: &Found<'m>,
+    here: &Found<'_>,
     members: &[bool],
     act: Act,
 ) -> Result<(), AllocError>
@@ -114,12 +110,12 @@ fn try_one<'m>(
 }
 
 /// Adds what the steps lead to from here, the one of a number, that are tried.
-fn look_by<'m>(
+fn look_by(
     alloc: Global,
-    all: &mut Entries<'m>,
+    all: &mut Entries<'_>,
     links: &mut Vec<Edge>,
     number: usize,
-    here: &Found<'m>,
+    here: &Found<'_>,
     members: &[bool],
 ) -> Result<(), AllocError>
     requires { slice_get all.old.all number ≡ Some here.now }
@@ -141,13 +137,13 @@ fn look_by<'m>(
 }
 
 /// Adds what the steps of a closed set lead to from here, the one of a number, or each step.
-fn look<'m>(
+fn look(
     alloc: Global,
     footprints: &Footprints<'_>,
-    all: &mut Entries<'m>,
+    all: &mut Entries<'_>,
     links: &mut Vec<Edge>,
     number: usize,
-    here: &Found<'m>,
+    here: &Found<'_>,
 ) -> Result<(), AllocError>
     requires there { slice_get all.old.all number ≡ Some here.now }
     requires footprints { footprints.now.module_run ≡ here.now.core.module_run }
@@ -168,10 +164,10 @@ fn look<'m>(
 }
 
 /// Adds what the steps of a closed set, or all, lead to from the one of a number.
-fn expand<'m>(
+fn expand(
     alloc: Global,
     footprints: &Footprints<'_>,
-    all: &mut Entries<'m>,
+    all: &mut Entries<'_>,
     links: &mut Vec<Edge>,
     number: usize,
 ) -> Result<(), AllocError>
@@ -195,10 +191,10 @@ fn expand<'m>(
 }
 
 /// Goes on until nothing is left to look at, or more are kept than the limit says. Whether nothing is left.
-fn search<'m>(
+fn search(
     alloc: Global,
     footprints: &Footprints<'_>,
-    all: &mut Entries<'m>,
+    all: &mut Entries<'_>,
     links: &mut Vec<Edge>,
     limit: usize,
 ) -> Result<bool, AllocError>

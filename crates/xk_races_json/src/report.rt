@@ -46,8 +46,8 @@ fn report_of(
 
 /// The races of a run of a source text's module, whose shared numbers have these names, as one JSON value on a line: a list of races, of
 /// each its two accesses as the objects that `events` has of these steps; whether every schedule prints these numbers; and the lines
-/// that are told behind the races: `{"every_schedule":true,"races":[],"text":".."}`. Which races these are, and the time that it takes, is said at
-/// `xk_races::shown_races`; the log is played once more. Err where memory was refused.
+/// that are told behind the races: `{"every_schedule":true,"races":[],"text":".."}`. Which races these are, and the time that it takes,
+/// is said at `xk_races::shown_races`; the log is played once more. Err where memory was refused.
 pub fn source_race_values(
     alloc: Global,
     text: &[u8],

@@ -26,8 +26,7 @@ returns-then-read-clause-least c =
     let m = c.args.verified.now in
     let args = c.args.arguments.now in
     let x = c.in_ok-explored.explored in
-    let played = subst (λ (s : CoreValue). ArePlayed s x.found.all x.links.items) c.in_ok-explored.ensures.begun
-    c.count_readings.ensures.played in
+    let played = subst (λ (s : CoreValue). ArePlayed s x.found.all x.links.items) c.in_ok-explored.ensures.begun c.count_readings.ensures.played in
     read_least m args x.found.all x.links.items played c.in_ok-read.read.count c.in_ok-read.ensures.least
 
 pub returns-then-read-clause-exact : goal.returns-then-read-clause-exact
@@ -37,21 +36,18 @@ returns-then-read-clause-exact c done =
     let x = c.in_ok-explored.explored in
     let is = c.in_ok-explored.ensures in
     let played = subst (λ (s : CoreValue). ArePlayed s x.found.all x.links.items) is.begun c.count_readings.ensures.played in
-    read_exact m args x.found.all x.links.items played (is.all c.if-explored.true) c.in_ok-read.read.count
-    (c.in_ok-read.ensures.exact c.if-read.true)
+    read_exact m args x.found.all x.links.items played (is.all c.if-explored.true) c.in_ok-read.read.count (c.in_ok-read.ensures.exact c.if-read.true)
 
 pub returns-clause-least : goal.returns-clause-least
 returns-clause-least c =
     let m = c.args.verified.now in
     let args = c.args.arguments.now in
     let x = c.in_ok-explored.explored in
-    let played = subst (λ (s : CoreValue). ArePlayed s x.found.all x.links.items) c.in_ok-explored.ensures.begun
-    c.count_readings.ensures.played in
+    let played = subst (λ (s : CoreValue). ArePlayed s x.found.all x.links.items) c.in_ok-explored.ensures.begun c.count_readings.ensures.played in
     let read = read_least m args x.found.all x.links.items played c.in_ok-read.read.count c.in_ok-read.ensures.least in
     let is = c.in_ok-found.ensures in
     let list = c.in_ok-found.found.list.items in
-    least_of false m args list c.count_of.result.count c.in_ok-read.read.count (printed_shown m args list is.shown) is.distinct read
-    c.count_of.ensures.either
+    least_of false m args list c.count_of.result.count c.in_ok-read.read.count (printed_shown m args list is.shown) is.distinct read c.count_of.ensures.either
 
 pub returns-clause-exact : goal.returns-clause-exact
 returns-clause-exact c done =
@@ -60,8 +56,7 @@ returns-clause-exact c done =
     let whole = sym c.count_of.ensures.complete ∙ done in
     let is = c.in_ok-found.ensures in
     let list = c.in_ok-found.found.list.items in
-    listed_exact false m args list c.count_of.result.count (printed_shown m args list is.shown) is.distinct (is.all whole)
-    (c.count_of.ensures.whole whole)
+    listed_exact false m args list c.count_of.result.count (printed_shown m args list is.shown) is.distinct (is.all whole) (c.count_of.ensures.whole whole)
 
 pub returns-clause-far : goal.returns-clause-far
 returns-clause-far c less =

@@ -7,15 +7,14 @@ returns-clause-least c =
     let m = c.args.verified.now in
     let args = c.args.arguments.now in
     let is = c.in_ok-found.ensures in
-    least_of true m args c.in_ok-found.found.list.items c.count_of.result.count 0 is.shown is.distinct (none_least true m args)
-    c.count_of.ensures.either
+    least_of true m args c.in_ok-found.found.list.items c.count_of.result.count 0 is.shown is.distinct (none_least true m args) c.count_of.ensures.either
 
 pub returns-clause-exact : goal.returns-clause-exact
 returns-clause-exact c done =
     let whole = sym c.count_of.ensures.complete ∙ done in
     let is = c.in_ok-found.ensures in
-    listed_exact true c.args.verified.now c.args.arguments.now c.in_ok-found.found.list.items c.count_of.result.count is.shown is.distinct
-    (is.all whole) (c.count_of.ensures.whole whole)
+    listed_exact true c.args.verified.now c.args.arguments.now c.in_ok-found.found.list.items c.count_of.result.count is.shown is.distinct (is.all whole)
+    (c.count_of.ensures.whole whole)
 
 pub returns-clause-lone : goal.returns-clause-lone
 returns-clause-lone c less = c.in_ok-found.ensures.lone (sym c.count_of.ensures.complete ∙ less)

@@ -29,7 +29,7 @@ returns-in_ok-new-clause-listed c =
 
 pub returns-in_ok-new-clause-of : goal.returns-in_ok-new-clause-of
 returns-in_ok-new-clause-of c start old found before =
-    of_either c.args.order start old c.args.run.now.schedule.items c.args.run.now.to c.args.list.now c.put_within.new.self c.in_ok-new.new c.put_within.ensures.each found
+    of_either c.args.order start old c.args.x.now c.args.list.now c.put_within.new.self c.in_ok-new.new c.put_within.ensures.each found
     c.in_ok-new.ensures before
 
 pub returns-else-ended-clause-distinct : goal.returns-else-ended-clause-distinct
@@ -40,7 +40,7 @@ returns-else-ended-clause-kept c numbers h = h
 
 pub returns-else-ended-clause-listed : goal.returns-else-ended-clause-listed
 returns-else-ended-clause-listed c noted done =
-    absurd (true≢false (sym done ∙ (ap (λ (x : FoundValue). all_ended x.core.world) (sym c.run.to.view_is) ∙ (sym c.ended.ensures
+    absurd (true≢false (sym done ∙ (ap (λ (x : FoundValue). all_ended x.core.world) (sym c.x.view_is) ∙ (sym c.ended.ensures
     ∙ c.if-ended.false))))
 
 pub returns-else-ended-clause-of : goal.returns-else-ended-clause-of
