@@ -291,7 +291,8 @@ def each_log(calls: Calls, folder: str) -> None:
             "page", "where", "where --at 2", "where --at 999999", "races", "races --json", "span"
         ):  # fmt: skip
             told = calls.ask(f"{name}, {command}", [*command.split(), *words, "-", str(kept)], text)
-            if told.status not in ((0, 6) if command.split()[0] in ("races", "span") else (6,) if "999999" in command else (0,)):
+            partial = (0, 6) if command.split()[0] in ("races", "span") else (6,) if "999999" in command else (0,)
+            if told.status not in partial:
                 raise Wrong(f"{name}, {command}: {told}")
             if not told.out:
                 raise Wrong(f"{name}, {command}: {told}")
