@@ -5,8 +5,8 @@
 
 Each text of the rows of tests/program/programs and each example is checked. Of those that are accepted, and whose runs
 are short, one in so many is run in some orders, with its events, also by a log that ends too early, its races, and its
-outcomes, alone and against lists. Each answer fits its schema, has no key that isn't in it, and tells the numbers that the lines
-tell. An answer without a key that the schema wants doesn't fit, nor does one whose last number is a text.
+outcomes, alone and against lists. Each answer fits its schema, has no key that isn't in it, and tells the numbers that
+the lines tell. An answer without a key that the schema wants doesn't fit, nor does one whose last number is a text.
 
 Wants Python's jsonschema (Debian's python3-jsonschema); where that lacks, the schemas are left out, and it says so.
 """
