@@ -11,8 +11,8 @@ use Rattle.xk_outcomes.proofs.search.look.Goals as goal
 pub returns-in-Some-clause-expanded : goal.returns-in-Some-clause-expanded
 returns-in-Some-clause-expanded c =
     let set : List Bool = c.in-Some.set in
-    let found : IsSparing c.here.core.module_run c.here.core.world (is_in set) =
-    subst (λ o. IfSome o (λ (members : List Bool). IsSparing c.here.core.module_run c.here.core.world (is_in members))) c.in-Some.is c.in_ok-set.ensures in
+    let found : IsSparing c.here.inside.core.module_run c.here.inside.core.world (is_in set) =
+    subst (λ o. IfSome o (λ (members : List Bool). IsSparing c.here.inside.core.module_run c.here.inside.core.world (is_in members))) c.in-Some.is c.in_ok-set.ensures in
     let here = ap (λ (x : FoundValue). x.core) c.here.view_is in
     let sparing = subst (λ (x : CoreValue). IsSparing x.module_run x.world (is_in set)) here found in
     on_ok_weaker c.look_by.result (λ after. inl (record {
