@@ -76,7 +76,7 @@ listed_all false m args list all schedule numbers o =
 listed_all true m args list all schedule numbers o =
     let h = all schedule numbers o in (h.0, h.1.numbers.items, numbers_at list h.0 h.1 h.2, h.3)
 
-pub listed_least : (sets : Bool) (m : ModuleValue) (args : List ℤ) (list : List Outcome) (count : ℕ) → AreShownAs sets m args list
+listed_least : (sets : Bool) (m : ModuleValue) (args : List ℤ) (list : List Outcome) (count : ℕ) → AreShownAs sets m args list
     → AreDistinctAs sets list → count ≡ length list → AreAtLeast sets m args count
 listed_least sets m args list count shown distinct many =
     let same = length-map list numbers_of in record {
