@@ -1,4 +1,4 @@
-use Rattle.std.proofs.Common.{refl}
+use Rattle.std.proofs.Common.{◌∙◌, ap, refl}
 use Rattle.xk_outcome_answers.proofs.outcome_count.counted_out.Goals as goal
 
 pub returns : goal.returns
@@ -9,7 +9,7 @@ returns c = record {
   exact = c.in_ok-counted.ensures.exact;
   lone = c.in_ok-counted.ensures.lone;
   far = c.in_ok-counted.ensures.far;
-  text_is = c.in_ok-line.ensures;
+  text_is = ap (λ v. v.items) c.into_bytes.ensures.value ∙ c.in_ok-line.ensures;
   whole_is = refl;
   log_is = refl;
 }
