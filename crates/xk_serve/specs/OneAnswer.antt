@@ -19,7 +19,7 @@ use Rattle.xk_program.specs.declared.fault.Fault.TheVariants as fault
 use Rattle.xk_bounds.specs.declared.refusal.Refusal.{Refusal}
 use Rattle.xk_bounds.specs.declared.refusal.Refusal.TheVariants as refusal
 use Rattle.xk_serve.specs.Answer.{Answers, IsSaidOf, Reply, Task, done_reply, fault_reply}
-use Rattle.xk_answers.specs.Results.{Check, Doing, Draw, Expected, Explain, IsLogText, Json, OutcomePage, Outcomes, Replay, Run}
+use Rattle.xk_answers.specs.Results.{Check, Count, Doing, Draw, Expected, Explain, IsLogText, Json, OutcomePage, Outcomes, Replay, Run}
 use Rattle.xk_answers.specs.Results.{RunShown, Shown}
 use Rattle.xk_messages.specs.Lines.{ended_line, kind_text, line, rounds_line}
 use Rattle.xk_program.specs.Programs.{Gives, IsSource, SpellsNone}

@@ -1,4 +1,4 @@
-use Rattle.std.proofs.Common.{◌∙◌, refl, ap, sym}
+use Rattle.std.proofs.Common.{◌∙◌, false, refl, ap, sym}
 use Rattle.std.specs.Prelude.{unwrap_or}
 use Rattle.xk_answers.specs.declared.picture.Picture.TheVariants as picture
 use Rattle.std.proofs.lemmas.Bool.{false≢true}

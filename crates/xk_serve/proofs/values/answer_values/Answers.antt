@@ -1,4 +1,4 @@
-use Rattle.std.proofs.Common.{◌∙◌, refl, ap, sym}
+use Rattle.std.proofs.Common.{◌∙◌, true, refl, ap, sym}
 use Rattle.std.specs.Prelude.{Bool, unwrap_or}
 use Rattle.xk_answers.specs.declared.picture.Picture.TheVariants as picture
 use Rattle.xk_answers.specs.Results.{Doing, Draw, ExpectedShown, Json, OutcomesShown, Races, RunShown, way_given}
