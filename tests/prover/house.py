@@ -26,7 +26,7 @@ MOST = {
     "full": 0,
     "long": 16,
     "bodies": 2,
-    "forwarders": 79,
+    "forwarders": 75,
     "uncommented": 9,
     "prover": 0,
     "uncited": 3,
@@ -34,12 +34,12 @@ MOST = {
     "pub": 87,
     "clauses": 0,
     "code": 225,
-    "proofs": 6665,
+    "proofs": 6685,
     "docs": 80,
     "scripts": 0,
     "files": 0,
     "unnamed": 0,
-    "ways": 14,
+    "ways": 18,
 }
 # `rt` sums up the files below a crate once for each way that leads to them in crates.txt: 200 ways are a second.
 MANY_WAYS = 1000
