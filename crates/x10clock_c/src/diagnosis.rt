@@ -172,7 +172,8 @@ fn refusal_position(
     refusal: &Refusal,
 ) -> Result<Option<Position>, AllocError>
     ensures { IfOk result
-        (λ p. p ≡ refusal_position text.now (option_map (λ o. o.now) origins) refusal.now) }
+        (λ p. p ≡ refusal_position text.now (option_map (λ o. o.now) origins.entry)
+        refusal.now) }
 {
     match refusal {
         Refusal::Shape(fault) => code_position(alloc, text, origins, fault.unit, fault.at),
@@ -190,7 +191,7 @@ fn code_position(
     at: u16,
 ) -> Result<Option<Position>, AllocError>
     ensures { IfOk result
-        (λ p. p ≡ code_position text.now (option_map (λ o. o.now) origins) unit at) }
+        (λ p. p ≡ code_position text.now (option_map (λ o. o.now) origins.entry) unit at) }
 {
     match origins {
         Some(origins) => match origins.units().get(unit as usize) {
