@@ -121,7 +121,7 @@ def options(rng: random.Random, command: str, text: str) -> Iterator[list[str]]:
         yield ["--svg"]
     if command == "lanes" and rng.random() < 0.3:
         yield ["--path"]
-    if command == "lanes" and rng.random() < 0.3:
+    if command == "lanes" and rng.random() < 0.1:
         yield ["--rounds"]
     if command == "outcomes" and rng.random() < 0.3:
         yield ["--sets"]
