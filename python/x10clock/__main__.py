@@ -1,12 +1,16 @@
-"""Grades programs from the command line.
+"""Grades programs from the command line, and shows how far a long search for outcomes is.
 
     python -m x10clock grade DIR --expect right.list [--jobs N] [--seconds S] [--csv FILE] [--junit FILE] [--out DIR]
     python -m x10clock judge FILE --expect right.list
+    python -m x10clock outcomes FILE --limit N [--sets] [--arg N]
 
 `grade` tells a verdict on each program of a folder, each by a process of its own that is ended after so many seconds.
 `judge` tells that on one as a line of JSON; so a cluster can be asked, too, with GNU parallel:
 
     ls DIR/*.x10 | parallel --timeout 10 python -m x10clock judge --expect right.list {} > verdicts.jsonl
+
+`outcomes` prints and answers what `x10clock outcomes` does with the same words, and shows on standard error how many
+worlds were searched, and how many outcomes are known by then; it takes up to three times as long.
 """
 
 from __future__ import annotations
@@ -18,16 +22,22 @@ import pathlib
 import sys
 from dataclasses import asdict
 
-from x10clock import grading
-from x10clock.faults import Fault
+from x10clock import grading, searching
+from x10clock.faults import Fault, known
+from x10clock.library import call
+
+
+def _add_search(parser: argparse.ArgumentParser, *, is_limited: bool) -> None:
+    """What is searched."""
+    parser.add_argument("--arg", type=int, action="append", default=[], metavar="N", help="a number that main is given")
+    parser.add_argument("--limit", type=int, required=is_limited, metavar="N", help="how many worlds are looked at")
+    parser.add_argument("--sets", action="store_true", help="numbers count in whatever order")
 
 
 def _add_asked(parser: argparse.ArgumentParser) -> None:
     """What programs are held against."""
     parser.add_argument("--expect", type=pathlib.Path, required=True, metavar="LIST", help="the outcomes that may be")
-    parser.add_argument("--arg", type=int, action="append", default=[], metavar="N", help="a number that main is given")
-    parser.add_argument("--limit", type=int, metavar="N", help="how many worlds are looked at")
-    parser.add_argument("--sets", action="store_true", help="numbers count in whatever order")
+    _add_search(parser, is_limited=False)
     parser.add_argument("--out", type=pathlib.Path, metavar="DIR", help="where logs and pages of wrong programs go")
 
 
@@ -44,6 +54,9 @@ def _given() -> argparse.Namespace:
     judge.add_argument("file", type=pathlib.Path, metavar="FILE")
     for parser_of in (grade, judge):
         _add_asked(parser_of)
+    outcomes = what.add_parser("outcomes", help="all outcomes of one program, by a search that shows how far it is")
+    outcomes.add_argument("file", type=pathlib.Path, metavar="FILE")
+    _add_search(outcomes, is_limited=True)
     return parser.parse_args()
 
 
@@ -69,10 +82,25 @@ def _judge(given: argparse.Namespace) -> int:
     return 0
 
 
+def _outcomes(given: argparse.Namespace) -> int:
+    """Shows how far the search is, and then prints all that was found."""
+    for found in searching.widening(given.file, *given.arg, limit=given.limit, sets=given.sets):
+        searching.show(found)
+    print(file=sys.stderr, end="\n" if sys.stderr.isatty() else "")
+    words = ["outcomes", "--limit", str(given.limit), *(["--sets"] if given.sets else [])]
+    words += [f"--arg={number}" for number in given.arg]
+    answer = known(call([*words, "--", str(given.file)], given.file))
+    sys.stdout.buffer.write(answer.out)
+    return answer.status
+
+
+DONE_BY = {"grade": _grade, "judge": _judge, "outcomes": _outcomes}
+
+
 def main() -> int:
     given = _given()
     try:
-        return _grade(given) if given.what == "grade" else _judge(given)
+        return DONE_BY[given.what](given)
     except Fault as fault:
         print(f"x10clock: {fault}", file=sys.stderr)
         return fault.answer.status

@@ -79,6 +79,35 @@ class Races:
     told: dict[str, Any]
 
 
+@dataclass(frozen=True)
+class Standings:
+    """How things stand behind so many steps of a log: who can take a step, the shared numbers by their names (of a
+    module by their numbers), and the same as an object (docs/FORMATS.md, "As JSON"). It isn't `whole` where a step of
+    the log can't be taken, or the log ends before the step that was asked for."""
+
+    steps: int
+    able: tuple[int, ...]
+    shared: dict[str | int, int]
+    whole: bool
+    told: dict[str, Any]
+
+
+@dataclass(frozen=True)
+class Span:
+    """How long a run had to take: its steps, how many of them had to come one after another, how many its widest round
+    has, whether every run has these numbers, and all that is told as an object (docs/FORMATS.md, "As JSON")."""
+
+    work: int
+    span: int
+    widest: int
+    every_schedule: bool
+    told: dict[str, Any]
+
+    @property
+    def parallelism(self) -> float:
+        return self.work / self.span
+
+
 def _words(command: str, program: Program, arguments: Sequence[int], *options: object, beside: str = "") -> list[str]:
     """The words of a command line: FILE comes behind the options, and then what is read beside it."""
     given = [f"--arg={number}" for number in arguments]
@@ -211,9 +240,26 @@ def where(program: Program, log: Program, *arguments: int, at: int | None = None
     return _asked(words, program, log).out.decode()
 
 
-def page(program: Program, log: Program, *arguments: int) -> bytes:
-    """An HTML page of the run that a log has."""
-    return _asked(_words("page", program, arguments, beside="log"), program, log).out
+def standings(program: Program, log: Program, *arguments: int, at: int | None = None) -> Standings:
+    """The same as an object: where each activity stands, what its names hold, whom it awaits; clocks; shared
+    numbers."""
+    words = _words("where", program, arguments, "--json", *_option("--at", at), beside="log")
+    answer = _asked(words, program, log)
+    told = _value(answer)
+    able = tuple(one["act"] for one in told["activities"] if one["does"] == "can step")
+    shared = {one.get("name", one["shared"]): one["value"] for one in told["shared"]}
+    return Standings(told["steps"], able, shared, answer.status == faults.DONE, told)
+
+
+def span(program: Program, log: Program, *arguments: int) -> Span:
+    """How parallel the run is that a log has: a critical path, who came last at each phase, where activities waited."""
+    told = _value(_asked(_words("span", program, arguments, "--json", beside="log"), program, log))
+    return Span(told["work"], told["span"], told["widest"], told["every_schedule"], told)
+
+
+def page(program: Program, log: Program, *arguments: int, path: bool = False) -> bytes:
+    """An HTML page of the run that a log has, with its critical path on demand."""
+    return _asked(_words("page", program, arguments, *_option("--path", path), beside="log"), program, log).out
 
 
 def page_of_outcome(program: Program, number: int, *arguments: int, limit: int | None = None) -> bytes:

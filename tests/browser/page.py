@@ -2,11 +2,13 @@
 """Opens pages of `page` in headless Chromium, and compares what they say at each moment with what the program says.
 
     python3 -m tests.browser.page [--program PATH] [--shots FOLDER]
-    python3 -m tests.browser.page [--program PATH] --picture    # makes the picture of the pages, and tries nothing
+    python3 -m tests.browser.page [--program PATH] --picture    # makes the pictures of docs/PAGE.md, and tries nothing
 
 The runs are those of tests/program/html_pages.py. At each moment: what the page says was done with `events`, how things
 stand, and which lines are marked, with `where` behind the log cut to so many steps, the printed numbers and the framed
 box with the events up to there. Then the keys and the buttons, and whether all fits into a wide window and a phone's.
+Of each also the page with `--path`: which boxes and lines are marked, with the picture of `lanes --svg --path` and with
+`span`; that all is gone while the box isn't ticked; and the keys and buttons that go along the path.
 Into the folder go screenshots of these, in light and dark. Where no browser is found it says so, and the status is 0.
 """
 
@@ -32,10 +34,11 @@ from tests.harness import TOP
 BROWSERS = ("chromium", "chromium-browser", "google-chrome", "chrome")
 # Screenshots: a name, and how wide and high the window is.
 SIZES = {"wide": (1200, 900), "phone": (390, 844)}
-# The picture of the pages: where it is, and of which run and moment, in a window how wide and high.
-PICTURE = TOP / "examples/pictures/page.png"
-PICTURED = ("two-in-step.x10", "last", ())
-PICTURED_STEP, PICTURED_SIZE = 8, (1100, 810)
+# The pictures of docs/PAGE.md: of which run and moment each is, with a path or not, in a window how wide and high.
+PICTURES = (
+    ("page.png", ("two-in-step.x10", "last", ()), 8, False, (1100, 810)),
+    ("path-page.png", ("imbalanced.x10", "round", ()), 80, True, (1540, 860)),
+)
 # What a page shows.
 SHOWN = """(() => {
   const lines = id => [...document.querySelectorAll(id + " > li")].flatMap((line, who) => [
@@ -52,6 +55,10 @@ SHOWN = """(() => {
     place: Number(document.getElementById("slider").value),
     most: Number(document.getElementById("slider").max),
     source: [...document.querySelectorAll("#source .code")].map(code => code.textContent).join("\\n"),
+    marked: [...document.querySelectorAll("#picture .of-path > title")].map(title => title.textContent),
+    counts: rows.flatMap((row, i) => row.firstChild.dataset.many ? [[i + 1, Number(row.firstChild.dataset.many)]] : []),
+    seen: [...document.querySelectorAll("#picture .critical, .round, #span")].some(part => part.checkVisibility())
+      || rows.some(row => getComputedStyle(row.firstChild, "::before").content !== "none"),
     fits: document.documentElement.scrollWidth <= window.innerWidth,
   };
 })()"""
@@ -121,9 +128,9 @@ class Browser:
             raise OSError(answer["exceptionDetails"]["exception"].get("description"))
         return answer["result"].get("value")
 
-    def press(self, key: str) -> None:
-        self.ask("Input.dispatchKeyEvent", type="keyDown", key=key, code=key)
-        self.ask("Input.dispatchKeyEvent", type="keyUp", key=key, code=key)
+    def press(self, key: str, shift: bool = False) -> None:
+        for what in ("keyDown", "keyUp"):
+            self.ask("Input.dispatchKeyEvent", type=what, key=key, code=key, modifiers=8 if shift else 0)
 
     def look(self, scheme: str, wide: int, high: int) -> None:
         """In light or dark, in a window of this size."""
@@ -144,13 +151,23 @@ def wanted_badges(standings: list[str]) -> list[list[Any]]:
     return sorted([int(it[2]), it[1], it[3] == "waits"] for it in found if it)
 
 
-def compare(shown: dict[str, Any], run: Run, events: dict[int, str], steps: int) -> None:
+def rounds(run: Run) -> dict[int, str]:
+    """The round of each step of the path that the page has, and how many steps the path has, as the page says it."""
+    if not run.has_path:
+        return {}
+    long = run.span().split()[3]
+    words = [step.split() for step in run.named()]
+    return {int(word[1]): f", round {word[5]} of {long}" for word in words}
+
+
+def compare(shown: dict[str, Any], run: Run, events: dict[int, str], steps: int, round_of: dict[int, str]) -> None:
     """What a page shows behind so many steps, with what the program says of it."""
     standings = run.where(steps).splitlines()
     prints = [re.search(r" print (-?\d+)$", line) for step, line in events.items() if step <= steps]
     same("steps", f"steps {steps}", standings[0])
     same(f"standings {steps}", shown["standings"], standings[1:])
-    same(f"event {steps}", shown["event"], events.get(steps, "before the first step"))
+    event = events.get(steps, "before the first step") + round_of.get(steps, "")
+    same(f"event {steps}", shown["event"], event)
     same(f"printed {steps}", shown["printed"], [found[1] for found in prints if found])
     same(
         f"box {steps}",
@@ -163,16 +180,49 @@ def compare(shown: dict[str, Any], run: Run, events: dict[int, str], steps: int)
 
 def try_moments(browser: Browser, run: Run, page: pathlib.Path) -> int:
     """Goes through all moments by the address, and then by keys and buttons; how many there are."""
-    events, asked = run.shown(), run.asked()
+    events, asked, round_of = run.shown(), run.asked(), rounds(run)
     browser.look("light", *SIZES["wide"])
     browser.open(page)
     for place, steps in enumerate(asked):
         browser.value(f"location.hash = '#{steps}'; new Promise(done => setTimeout(done, 0))")
         shown = browser.value(SHOWN)
-        compare(shown, run, events, steps)
+        compare(shown, run, events, steps, round_of)
         same(f"slider {steps}", [shown["place"], shown["most"]], [place, len(asked) - 1])
     try_moves(browser, len(asked) - 1)
+    if run.has_path:
+        try_path(browser, run, asked, list(round_of))
     return len(asked)
+
+
+def try_path(browser: Browser, run: Run, asked: list[int], steps: list[int]) -> None:
+    """The marked boxes and lines, the box to tick, and the keys and buttons that go along the path."""
+    shown = browser.value(SHOWN)
+    same("marked boxes", [int(title.split()[1]) for title in shown["marked"]], steps)
+    same("lines", sum(many for _, many in shown["counts"]), 0 if run.is_module else int(run.span().split()[3]))
+    said = browser.value("document.getElementById('span').textContent")
+    same("span", f"{said}\n", run.span())
+    scope = browser.value("document.querySelector('#way .scope').textContent")
+    same("scope", scope, "; ".join(run.span().splitlines()[:: len(run.span().splitlines()) - 1]))
+    for is_seen in (False, True):
+        browser.value("document.querySelector('#way input').click()")
+        same("ticked", browser.value(SHOWN)["seen"], is_seen)
+    places = [asked.index(step) for step in steps]
+    goes = {
+        "p": lambda: browser.press("p"),
+        "next": lambda: browser.value("document.querySelectorAll('#way button')[1].click()"),
+        "P": lambda: browser.press("P", shift=True),
+        "back": lambda: browser.value("document.querySelectorAll('#way button')[0].click()"),
+    }
+    for name, go in goes.items():
+        is_back = name in ("P", "back")
+        browser.press("End" if is_back else "Home")
+        begins = len(asked) - 1 if is_back else 0
+        for place in [place for place in (reversed(places) if is_back else places) if place != begins]:
+            go()
+            same(name, browser.value(SHOWN)["place"], place)
+        kept = browser.value(SHOWN)["place"]
+        go()
+        same(f"{name} at the end", browser.value(SHOWN)["place"], kept)
 
 
 def try_moves(browser: Browser, last: int) -> None:
@@ -216,17 +266,25 @@ def paged(
     return run, page
 
 
-def picture(browser: Browser, program: pathlib.Path, folder: pathlib.Path) -> None:
-    """Makes the picture of the pages anew."""
-    run = made(program.resolve(), *PICTURED, folder)
+def pathed(run: Run, page: pathlib.Path) -> tuple[Run, pathlib.Path]:
+    """The same with a critical path."""
+    other, there = run._replace(has_path=True), page.with_stem(f"{page.stem}-path")
+    there.write_bytes(other.page().encode())
+    return other, there
+
+
+def pictures(browser: Browser, program: pathlib.Path, folder: pathlib.Path) -> None:
+    """Makes the pictures of docs/PAGE.md anew."""
     os.chdir(TOP)
-    page = folder / "page.html"
-    page.write_bytes(run._replace(file=run.file.relative_to(TOP)).page().encode())
-    browser.look("light", *PICTURED_SIZE)
     browser.ask("Emulation.setScrollbarsHidden", hidden=True)
-    browser.open(page, f"#{PICTURED_STEP}")
-    browser.shoot(PICTURE)
-    print(PICTURE.relative_to(TOP))
+    for name, of, step, has_path, size in PICTURES:
+        run = made(program.resolve(), *of, folder)
+        page = folder / "page.html"
+        page.write_bytes(run._replace(file=run.file.relative_to(TOP), has_path=has_path).page().encode())
+        browser.look("light", *size)
+        browser.open(page, f"#{step}")
+        browser.shoot(TOP / "examples/pictures" / name)
+        print(f"examples/pictures/{name}")
 
 
 def main() -> int:
@@ -246,12 +304,13 @@ def main() -> int:
         browser = Browser(found, f"{there}/browser")
         try:
             if asked.picture:
-                picture(browser, asked.program, folder)
+                pictures(browser, asked.program, folder)
             for name, order, part in () if asked.picture else RUNS:
-                run, page = paged(asked.program, name, order, part, folder)
-                print(page.name, try_moments(browser, run, page), "moments", flush=True)
-                steps = run.asked()
-                try_looks(browser, page, steps[len(steps) // 2], asked.shots)
+                plain = paged(asked.program, name, order, part, folder)
+                for run, page in (plain, pathed(*plain)):
+                    print(page.name, try_moments(browser, run, page), "moments", flush=True)
+                    steps = run.asked()
+                    try_looks(browser, page, steps[len(steps) // 2], asked.shots)
         except Wrong as wrong:
             print(f"{name}: {wrong}", file=sys.stderr)
             return 1

@@ -100,7 +100,7 @@ def options(rng: random.Random, command: str, text: str) -> Iterator[list[str]]:
     """Some options of a command, mostly such as could be meant with this text."""
     if command != "compile" and text.endswith(".json") != (rng.random() < 0.1):
         yield ["--module"]
-    tells_json = command in ("check", "explain", "run", "outcomes", "events", "races")
+    tells_json = command in ("check", "explain", "run", "outcomes", "events", "races", "where", "span")
     if tells_json and rng.random() < (0.5 if command == "explain" else 0.3) or rng.random() < 0.02:
         yield ["--json"]
     if command == "run" and rng.random() < 0.4:
@@ -119,7 +119,7 @@ def options(rng: random.Random, command: str, text: str) -> Iterator[list[str]]:
         )
     if command == "lanes" and rng.random() < 0.3:
         yield ["--svg"]
-    if command == "lanes" and rng.random() < 0.3:
+    if command in ("lanes", "page") and rng.random() < 0.3:
         yield ["--path"]
     if command == "lanes" and rng.random() < 0.1:
         yield ["--rounds"]

@@ -51,7 +51,7 @@ BROKEN = r"x10clock: ([FV])(\d+) \w+(?: unit (\d+))?(?: at (\d+)| over \d+)"
 ALONE = ((), ("--help",), ("run", "--help"), ("--version",), ("walk",), ("check",), ("explain", "V12"))
 PICTURES = (
     ("chart",), ("events",), ("lanes",), ("lanes", "--svg"), ("lanes", "--path"), ("lanes", "--rounds"), ("page",),
-    ("where",), ("where", "--at", "2")
+    ("page", "--path"), ("where",), ("where", "--at", "2"), ("where", "--json"), ("where", "--json", "--at", "2")
 )  # fmt: skip
 
 
@@ -115,6 +115,7 @@ def further_questions(text: bytes, form: tuple[str, ...], log: bytes) -> Iterato
         yield Question((command, *form, "mine", "beside"), text, log)
         yield Question((command, *form, "mine", "beside"), text, log[: len(log) // 2])
     yield Question(("races", "--json", *form, "mine", "beside"), text, log)
+    yield Question(("span", "--json", *form, "mine", "beside"), text, log)
     yield Question(("why", *form, "mine", "beside", "2"), text, log)
 
 

@@ -38,6 +38,15 @@ TAKES_ONE = "def main(n: Long) { Console.OUT.println(n); }"
 # One that takes longer than it is given.
 ENDLESS = "def main() { for (i in 1..1000) for (j in 1..1000) for (k in 1..100) ; Console.OUT.println(7); }"
 
+# One with more than 30,000 worlds: four activities race, by different numbers.
+UNEQUAL = """shared x = 0;
+def main() {
+    finish for (who in 1..4) async for (turn in 1..3) { val seen = x; x = seen + who; }
+    val left = x;
+    Console.OUT.println(left);
+}
+"""
+
 
 class Wrong(Exception):
     """Something else than is wanted."""
@@ -90,7 +99,15 @@ def runs() -> None:
     fault_of(x10clock.BadLog, lambda: x10clock.replay(IN_STEP, b"no log\n"))
     want("where", x10clock.where(IN_STEP, run.log).splitlines()[0], "steps 19")
     want("where, earlier", x10clock.where(IN_STEP, run.log, at=3).splitlines()[0], "steps 3")
+    stood = x10clock.standings(IN_STEP, run.log, at=3)
+    want("standings", (stood.steps, stood.able, stood.whole), (3, (0, 1), True))
+    want("frames", [frame["in"] for frame in stood.told["frames"]], ["main", "async"])
+    want("standings behind the end", x10clock.standings(IN_STEP, run.log, at=99).told["log_ends"], 19)
+    timed = x10clock.span(IN_STEP, run.log)
+    want("span", (timed.work, timed.span, timed.every_schedule), (19, 12, True))
+    want("parallelism", f"{timed.parallelism:.2f}", "1.58")
     want("page", x10clock.page(IN_STEP, run.log)[:15], b"<!DOCTYPE html>")
+    want("page with a path", b' id="path">' in x10clock.page(IN_STEP, run.log, path=True), True)
     want("races", x10clock.races(IN_STEP).count, 0)
     want("races of a log", x10clock.races(IN_STEP, log=run.log).count, 0)
     want("every schedule", x10clock.races(IN_STEP).told["every_schedule"], True)
@@ -101,6 +118,10 @@ def searches() -> None:
     want("outcomes", (len(found.all), found.complete), (4, True))
     want("count", x10clock.count(IN_STEP), x10clock.Count(4, True))
     want("a count that isn't all", x10clock.count(RACING, limit=1).complete, False)
+    want("at once", list(x10clock.widening(IN_STEP, limit=5)), [x10clock.Searched(5, x10clock.Count(4, True))])
+    worlds = [found.worlds for found in x10clock.widening(UNEQUAL, limit=30_000)]
+    want("up to the limit", worlds, [10_000, 20_000, 30_000])
+    searching()
     picked = x10clock.outcomes(IN_STEP, pick=3)
     want("its log", x10clock.replay(IN_STEP, picked.log).printed, picked.all[2].printed)
     listed = harness.call([sys.executable, "-c", "print('outcome 1 prints 7')"]).out
@@ -108,6 +129,19 @@ def searches() -> None:
     want("not held", x10clock.held_against("def main() { Console.OUT.println(8); }", listed), x10clock.Outcome(1, (8,)))
     want("undecided", x10clock.outcomes(RACING, limit=1).complete, False)
     want("its page", x10clock.page_of_outcome(IN_STEP, 2)[:15], b"<!DOCTYPE html>")
+
+
+def searching() -> None:
+    """The search that shows how far it is prints what the program does, with its status."""
+    words = ["-m", "x10clock", "outcomes", "--limit", "30000"]
+    with tempfile.NamedTemporaryFile("w", suffix=".x10") as file:
+        file.write(UNEQUAL)
+        file.flush()
+        ended = harness.call([sys.executable, *words, file.name], cwd=TOP / "python", seconds=120)
+    told = x10clock.call(["outcomes", "--limit", "30000", "-"], UNEQUAL)
+    want("what is printed", (ended.status, ended.out), (told.status, told.out))
+    shown = [line.split()[0] for line in ended.err.decode().splitlines()]
+    want("what is shown", shown, ["10000", "20000", "30000"])
 
 
 def steps() -> None:

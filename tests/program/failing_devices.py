@@ -93,10 +93,12 @@ CALLS = [
         Call(f"{command} - SECOND", IN_STEP, LOG)
         for command in (
             "replay", "chart", "events", "events --json", "lanes", "lanes --svg", "lanes --path", "lanes --svg --path",
-            "lanes --rounds", "page", "where", "where --at 2", "races", "races --json", "span")
+            "lanes --rounds", "page", "page --path", "where", "where --json", "where --at 2", "races", "races --json",
+            "span", "span --json")
     ),
     *(Call(f"{command} --module - SECOND", MODULE, LOG) for command in ("replay", "chart")),
     Call("where --at 99 - SECOND", IN_STEP, LOG, status=6),
+    Call("where --json --at 99 - SECOND", IN_STEP, LOG, status=6),
     Call("why - SECOND 4", IN_STEP, LOG),
     Call("why - SECOND 99", IN_STEP, LOG, status=6),
     Call("explain V9", b""),
@@ -109,6 +111,7 @@ CALLS = [
     Call("outcomes --json --expect SECOND -", IN_STEP, b"outcome 1 prints 7\n", status=7),
     Call("lanes --svg - SECOND", MANY, MANY_LOG, status=6),
     Call("page - SECOND", MANY, MANY_LOG, status=6),
+    Call("page --path - SECOND", MANY, MANY_LOG, status=6),
     Call("page --outcome 2 -", IN_STEP),
     Call("page --outcome 3 -", IN_STEP, status=6),
     *(Call(f"{command} -", NO_PROGRAM, status=1) for command in ("check", "explain", "explain --json")),

@@ -126,7 +126,8 @@ def full_devices(tried: Tried) -> None:
     )
     tried.answers("exec $x events in-step.x10 log > /dev/full", 5, err=DEVICE)
     for command in (
-        "lanes", "lanes --svg", "lanes --path", "lanes --svg --path", "lanes --rounds", "page", "where", "races", "span"
+        "lanes", "lanes --svg", "lanes --path", "lanes --svg --path", "lanes --rounds", "page", "page --path", "where",
+        "races", "span"
     ):  # fmt: skip
         tried.answers(f"exec $x {command} in-step.x10 log > /dev/full", 5, err=DEVICE)
     tried.answers("exec $x page --outcome 2 in-step.x10 > /dev/full", 5, err=DEVICE)
@@ -257,8 +258,8 @@ def strange_files(tried: Tried) -> None:
     tried.answers("exec $x listing --module /dev/zero", 1, err="x10clock: M3 Limit\n")
     tried.answers("exec $x listing /dev/null", 1, err="x10clock: F9 NoMain at 0\n")
     for command in (
-        "replay", "chart", "events", "lanes", "lanes --svg", "lanes --path", "lanes --rounds", "page", "where",
-        "where --at 2", "races", "span", "why"
+        "replay", "chart", "events", "lanes", "lanes --svg", "lanes --path", "lanes --rounds", "page", "page --path",
+        "where", "where --at 2", "races", "span", "why"
     ):  # fmt: skip
         step = " 4" if command == "why" else ""
         tried.answers(f"exec $x {command} in-step.x10 .{step}", 5, err=unopened(command, ".", FOLDER))

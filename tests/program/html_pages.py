@@ -7,7 +7,9 @@ with what the program says of the same run.
 Of some runs, one of them of a module, and some of texts that have what HTML takes for something else: the text of the
 element `source` is FILE's; that of `moments` is what `where` prints before the first step and behind each that is asked
 for, each after the line of `events` without whose write was read, with those of the other steps that printed; that of
-`picture` is what `lanes --svg` prints. The policy stands in the head before all that could fetch, no element fetches,
+`picture` is what `lanes --svg` prints. Of each also the page with `--path`: there the picture is that of `lanes --svg
+--path`, and the text of `path` what `span` prints, the steps of the path that the picture names, and how many come from
+each line, the most as `span` says. The policy stands in the head before all that could fetch, no element fetches,
 and all elements are closed, in order. Then a page is made wrong on purpose, in several ways, each of which has to be
 refused.
 """
@@ -49,6 +51,7 @@ def main() { Console.OUT.println(1); }""",
 RUNS: tuple[tuple[str, str, tuple[int, ...]], ...] = (
     ("held-back.x10", "last", ()),
     ("stencil.x10", "first", ()),
+    ("unlucky-schedule.x10", "round", ()),
     ("stencil.x10", "random", (40, 60)),
     ("tree-of-finishes.x10", "last", ()),
     ("ring.json", "first", ()),
@@ -85,6 +88,19 @@ WRONG = (
     ("the moments aren't there as text", '<script type="text/plain" id="moments">', '<script id="moments">'),
     ("a box of the picture has another line", "<title>step ", "<title>steps "),
 )
+# The same of its page with a critical path.
+WRONG_PATHS = (
+    ("a step of the path isn't told", "\nstep 5 act 0 round 5\n", "\n"),
+    ("a step of the path has another round", "\nstep 5 act 0 round 5\n", "\nstep 5 act 0 round 6\n"),
+    ("a line has more steps of the path", "\nline 3 with ", "\nline 3 with 1"),
+    ("steps of the path come from another line", "\nline 3 with ", "\nline 2 with "),
+    ("it is said of other runs, too", "\nevery schedule has", "\nof this run alone: every schedule has"),
+    ("the path isn't there as text", '<script type="text/plain" id="path">', '<script id="path">'),
+    ("the picture has no path", "<path class='critical' d='M16 79h32'/>", ""),
+    ("the script of the path is another one", "tick.checked = true;", "tick.checked = false;"),
+)
+# A step that the picture of a path names, and what `span` says of lines.
+NAMED, LINES = re.compile(r" (step \d+ act \d+ round \d+);"), re.compile(r"^path lines (.*)$", re.MULTILINE)
 
 
 class Wrong(Exception):
@@ -99,21 +115,22 @@ def same(what: str, said: Any, wanted: Any) -> None:
 # ---- runs, and what the program says of them
 
 
-def answered(words: list[object]) -> str:
-    """What a call of the program tells, which has to be done."""
+def answered(words: list[object], *partial: int) -> str:
+    """What a call of the program tells, which has to be done, or to have one of these statuses."""
     ended = harness.call(words)
-    if ended.status:
+    if ended.status not in (0, *partial):
         raise Wrong(f"status {ended.status}: {ended.err!r}")
     return ended.out.decode()
 
 
 class Run(NamedTuple):
-    """A program, its log, and which steps are asked for."""
+    """A program, its log, which steps are asked for, and whether with a critical path."""
 
     program: pathlib.Path
     file: pathlib.Path
     log: pathlib.Path
     part: tuple[int, ...]
+    has_path: bool = False
 
     @property
     def is_module(self) -> bool:
@@ -127,8 +144,16 @@ class Run(NamedTuple):
     def window(self) -> list[str]:
         return [f"{flag}={step}" for flag, step in zip(("--from", "--to"), self.part)]
 
+    @property
+    def path(self) -> list[str]:
+        return ["--path"] if self.has_path else []
+
     def ask(self, command: str, log: pathlib.Path, *more: str) -> str:
         return answered([self.program, command, *self.flags, *more, self.file, log])
+
+    def span(self) -> str:
+        """What `span` prints, of a run with a race, too."""
+        return answered([self.program, "span", *self.flags, self.file, self.log], 6)
 
     def where(self, steps: int) -> str:
         """How things stand behind so many steps of the log, which has an entry for each."""
@@ -138,10 +163,14 @@ class Run(NamedTuple):
         return self.ask("where", cut)
 
     def page(self) -> str:
-        return self.ask("page", self.log, *self.window)
+        return self.ask("page", self.log, *self.path, *self.window)
 
     def picture(self) -> str:
-        return self.ask("lanes", self.log, "--svg", *self.window)
+        return self.ask("lanes", self.log, "--svg", *self.path, *self.window)
+
+    def named(self) -> list[str]:
+        """The steps of the path that the picture names."""
+        return NAMED.findall(self.picture().partition("</desc>")[0])
 
     def source(self) -> str:
         """The source text that the page has; of a module it has none."""
@@ -310,6 +339,24 @@ def try_moments(page: Page, run: Run) -> None:
     same("moments", behind_first_line(moments, moments.text), "".join(run.moments()))
 
 
+def try_path(page: Page, run: Run) -> None:
+    """What `span` prints, the steps of the path that the picture has, and how many of all come from each line."""
+    path = page.by_id("path")
+    same("the path's element", [path.name, path.attributes], ["script", {"type": "text/plain", "id": "path"}])
+    span = run.span()
+    told = behind_first_line(path, path.text)
+    same("what span prints", told[: len(span)], span)
+    steps = "".join(f"{step}\n" for step in run.named())
+    same("the path's steps", told[len(span) :][: len(steps)], steps)
+    lines = [line.split() for line in told[len(span) + len(steps) :].splitlines()]
+    counts = {int(line): int(many) for word, line, _, many in lines if word == "line"}
+    same("the path's lines", [len(counts), sorted(counts)], [len(lines), list(counts)])
+    most = sorted(counts.items(), key=lambda item: (-item[1], item[0]))[:5]
+    said = LINES.findall(span)
+    same("the lines with the most", [", ".join(f"{line} with {many}" for line, many in most)] if most else [], said)
+    same("steps on lines", sum(counts.values()), 0 if run.is_module else int(span.split()[3]))
+
+
 def policy(page: Page) -> str:
     """The policy by which the page's one script runs, its styles count, and nothing is fetched."""
 
@@ -333,8 +380,8 @@ def try_policy(page: Page) -> None:
     same("elements with a style", [element.name for element in page.all if "style" in element.attributes], [])
 
 
-def try_fetches(page: Page) -> None:
-    """No element fetches anything, nor has a script of its own, but for the two of each page."""
+def try_fetches(page: Page, run: Run) -> None:
+    """No element fetches anything, nor has a script of its own, but for those of each page."""
     for element in page.all:
         same("an element that fetches", element.name if element.name in FETCHING else "", "")
         for key, value in element.attributes.items():
@@ -344,7 +391,8 @@ def try_fetches(page: Page) -> None:
                 raise Wrong(f"an attribute of <{element.name}>: {key}={value!r}")
     styles = "".join(style.text for style in page.named("style"))
     same("what colours fetch", re.findall(r"@import|url\((?!#)[^)]*", styles), [])
-    same("scripts", [script.attributes.get("id", "") for script in page.named("script")], ["moments", ""])
+    scripts = ["moments", *(["path"] if run.has_path else []), ""]
+    same("scripts", [script.attributes.get("id", "") for script in page.named("script")], scripts)
 
 
 def compare(text: str, run: Run) -> None:
@@ -354,8 +402,10 @@ def compare(text: str, run: Run) -> None:
     try_source(page, run)
     try_picture(page, run)
     try_moments(page, run)
+    if run.has_path:
+        try_path(page, run)
     try_policy(page)
-    try_fetches(page)
+    try_fetches(page, run)
 
 
 def is_refused(call: Callable[[], None]) -> bool:
@@ -366,9 +416,9 @@ def is_refused(call: Callable[[], None]) -> bool:
     return False
 
 
-def plant(text: str, run: Run) -> None:
+def plant(text: str, run: Run, wrong: tuple[tuple[str, str, str], ...]) -> None:
     """Each page that is wrong on purpose has to be refused."""
-    for what, old, new in WRONG:
+    for what, old, new in wrong:
         if old not in text:
             raise Wrong(f"{what}: the page has no {old!r}")
         if not is_refused(lambda: compare(text.replace(old, new, 1), run)):
@@ -386,13 +436,18 @@ def main() -> int:
                 run = made(program, name, order, part, pathlib.Path(folder))
                 text = run.page()
                 compare(text, run)
+                pathed = run._replace(has_path=True)
+                with_path = pathed.page()
+                compare(with_path, pathed)
                 moments += len(run.asked())
                 if name == "signs.x10":
-                    plant(text, run)
+                    plant(text, run, WRONG)
+                    plant(with_path, pathed, WRONG_PATHS)
             except Wrong as wrong:
                 print(f"{name}: {wrong}", file=sys.stderr)
                 return 1
-    print(f"html_pages: {len(RUNS)} pages with {moments} moments, {len(WRONG)} wrong ones are refused")
+    wrong = len(WRONG) + len(WRONG_PATHS)
+    print(f"html_pages: {len(RUNS)} pages with {moments} moments, also with a path; {wrong} wrong ones are refused")
     return 0
 
 

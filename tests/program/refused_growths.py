@@ -288,7 +288,8 @@ def each_log(calls: Calls, folder: str) -> None:
             raise Wrong(f"{name}, chart: {charted}")
         for command in (
             "events", "events --json", "lanes", "lanes --svg", "lanes --path", "lanes --svg --path", "lanes --rounds",
-            "page", "where", "where --at 2", "where --at 999999", "races", "races --json", "span"
+            "page", "page --path", "where", "where --json", "where --at 2", "where --at 999999",
+            "where --json --at 999999", "races", "races --json", "span", "span --json"
         ):  # fmt: skip
             told = calls.ask(f"{name}, {command}", [*command.split(), *words, "-", str(kept)], text)
             partial = (0, 6) if command.split()[0] in ("races", "span") else (6,) if "999999" in command else (0,)
@@ -304,7 +305,10 @@ def each_log(calls: Calls, folder: str) -> None:
     for log, line in (("zero-steps", "L1 Grammar line 2"), ("no-end", "L2 Truncated"),
                       ("waits", "L4 NotEnabled entry 3"), ("stops", "L5 NotEnded")):
         so_far = () if log == "stops" else ("events", "lanes", "page")
-        for command in ("replay", "chart", *so_far, "races", "races --json", "span", "lanes --path", "lanes --rounds"):
+        for command in (
+            "replay", "chart", *so_far, "races", "races --json", "span", "span --json", "lanes --path",
+            "lanes --rounds", "page --path"
+        ):  # fmt: skip
             err = f"x10clock: {line}\n".encode()
             calls.need(f"{command}, {log}", [*command.split(), "-", str(LOGS / f"{log}.log")], text, 3, b"", err)
         calls.need(f"why, {log}", ["why", "-", str(LOGS / f"{log}.log"), "1"], text, 3, b"", err)
@@ -319,9 +323,10 @@ def each_log(calls: Calls, folder: str) -> None:
         if told.status != 6 or b"the log ends after step 11, before the run does" not in told.out:
             raise Wrong(f"{command}, stops: {told}")
     for log, status in (("zero-steps", 3), ("no-end", 3), ("waits", 6), ("stops", 0)):
-        stood = calls.ask(f"where, {log}", ["where", "-", str(LOGS / f"{log}.log")], text)
-        if stood.status != status:
-            raise Wrong(f"where, {log}: {stood}")
+        for command in ("where", "where --json"):
+            stood = calls.ask(f"{command}, {log}", [*command.split(), "-", str(LOGS / f"{log}.log")], text)
+            if stood.status != status:
+                raise Wrong(f"{command}, {log}: {stood}")
 
 
 def each_mismatch(calls: Calls, folder: str) -> None:
@@ -486,7 +491,7 @@ def each_mistake(calls: Calls) -> None:
             (
                 "a page of no run",
                 ["page", "-"],
-                "x10clock: page takes either LOG or --outcome, and --limit goes with --outcome",
+                "x10clock: page takes either LOG or --outcome; --limit goes with --outcome, and --path with LOG",
             ),
             ("no outcomes", ["outcomes", "--limit", "0", "-"],
              "error: invalid value '0' for '--limit <LIMIT>': 0 is not in 1..18446744073709551615")):

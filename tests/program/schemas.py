@@ -4,9 +4,10 @@
     python3 -m tests.program.schemas [--program PATH]
 
 Each text of the rows of tests/program/programs and each example is checked. Of those that are accepted, and whose runs
-are short, one in so many is run in some orders, with its events, also by a log that ends too early, its races, and its
-outcomes, alone and against lists. Each answer fits its schema, has no key that isn't in it, and tells the numbers that
-the lines tell. An answer without a key that the schema wants doesn't fit, nor does one whose last number is a text.
+are short, one in so many is run in some orders, with its events and how things stand, also by a log that ends too
+early, its races, how long it had to take, and its outcomes, alone and against lists. Each answer fits its schema, has
+no key that isn't in it, and tells the numbers that the lines tell. An answer without a key that the schema wants
+doesn't fit, nor does one whose last number is a text.
 
 Wants Python's jsonschema (Debian's python3-jsonschema); where that lacks, the schemas are left out, and it says so.
 """
@@ -25,6 +26,8 @@ from typing import Any
 from tests import harness
 from tests.generated.mutations import row_texts
 from tests.harness import TOP
+from tests.program import values_as_lines
+from tests.program.values_as_lines import Value, place_of
 
 try:
     import jsonschema
@@ -36,7 +39,7 @@ SCHEMAS = TOP / "docs/schemas"
 ASKED, MOST_STEPS = 8, 2_000
 ORDERS = (("first",), ("last",), ("random", "--seed", "7"), ("greedy",), ("greedy", "--processors", "2"))
 MODULE = ["--module"]
-Value = dict[str, Any]
+NAMES = ("check", "run", "outcomes", "expected", "events", "races", "where", "span")
 
 
 class Wrong(Exception):
@@ -97,13 +100,6 @@ class Schema:
         return next(forms[name]["required"] for name in names if set(forms[name]["required"]) <= set(value))
 
 
-def place_of(value: Value) -> str:
-    """Where a step was taken."""
-    if "line" in value:
-        return f"at {value['line']}:{value['column']}"
-    return f"unit {value['unit']} place {value['place']}"
-
-
 def words_of(value: Value) -> str:
     """What a line says of a step behind the word for what it did."""
     if "name" not in value:
@@ -121,7 +117,7 @@ class Asker:
 
     def __init__(self, program: pathlib.Path, work: pathlib.Path) -> None:
         self.program, self.work = program, work
-        self.schemas = {name: Schema(name) for name in ("check", "run", "outcomes", "expected", "events", "races")}
+        self.schemas = {name: Schema(name) for name in NAMES}
 
     def call(self, *words: object, given: bytes) -> tuple[int, str, str]:
         return harness.call([self.program, *words], given).texts()
@@ -159,12 +155,15 @@ class Asker:
             raise Wrong("isn't what `run` prints")
         self.stepped(text, form, log)
         self.raced(text, form, (log,))
+        self.timed(text, form, log)
         if order == ORDERS[0]:
             self.raced(text, form, ())
         head, *entries, _ = log.read_text().splitlines()
         some = entries[: len(entries) // 2]
         log.write_text("".join(f"{line}\n" for line in [head, *some, f"end {len(some)}"]))
         self.stepped(text, form, log)
+        for at in ((), ("--at", told["steps"] // 4), ("--at", told["steps"])):
+            self.stood(text, [*form, *map(str, at)], log)
 
     def stepped(self, text: bytes, form: list[str], log: pathlib.Path) -> None:
         """The events of a log, each beside its line."""
@@ -196,6 +195,20 @@ class Asker:
             raise Wrong(f"tells {words} and {value['text']!r} where `races` tells {told}")
         if (status == 6) == value["every_schedule"]:
             raise Wrong("says otherwise than its status whether every schedule prints these numbers")
+
+    def stood(self, text: bytes, given: list[str], log: pathlib.Path) -> None:
+        """How things stand behind the steps of a log: the value says all that the lines do."""
+        out = self.call("where", *given, "-", log, given=text)[1]
+        value = self.value("where", "where", *given, given=text, beside=(log,))
+        if values_as_lines.standings(value) != out:
+            raise Wrong(f"tells {value} where `where` tells {out}")
+
+    def timed(self, text: bytes, form: list[str], log: pathlib.Path) -> None:
+        """How long a run had to take: the value says all that the lines do."""
+        out = self.call("span", *form, "-", log, given=text)[1]
+        value = self.value("span", "span", *form, given=text, beside=(log,))
+        if values_as_lines.timing(value) != out:
+            raise Wrong(f"tells {value} where `span` tells {out}")
 
     def beside(self, value: Value, line: str) -> None:
         """Whether a value of a step tells what its line does."""

@@ -30,6 +30,8 @@ START = 7 * MEGABYTE
 LONGEST_TEXT = 1 << 20
 # The status of an answer that isn't whole, or is a no.
 NOT_WHOLE = 6
+# So many bytes for each byte of a JSON value, whose parts are all there before the first is written.
+TIMES_VALUE = 35
 # How long a call may take: these are the largest.
 SECONDS = 2 * harness.SECONDS
 
@@ -136,6 +138,11 @@ def to_order(activities: int, deeds: int, races: int) -> int:
 def to_chain(steps: int) -> int:
     """The longest chain up to each step, also of those that nobody else sees, and which deed comes right before it."""
     return 270 * steps
+
+
+def to_mark(steps: int) -> int:
+    """The round of each step, and the steps of a critical path, with which these are."""
+    return 200 * steps
 
 
 # The programs.
@@ -320,10 +327,11 @@ class Calls:
         return Call(f"run --log, {name}", words, most)
 
     def on_log(self, words: list[object], name: str, text: str, most: int) -> Call:
-        """A call on this text and that log, which can want so much and four times what it prints."""
+        """A call on this text and that log, which can want so much and four times what it prints, or more of a JSON
+        value."""
         path, entries = self.file(text), to_log(judged(text).bounds.steps)
-        told = " ".join(str(word) for word in words)
-        return Call(f"{told}, {name}", [*words, path, self.folder / "log"], self.small(text) + entries + most, 4)
+        told, times = " ".join(str(word) for word in words), TIMES_VALUE if "--json" in words else 4
+        return Call(f"{told}, {name}", [*words, path, self.folder / "log"], self.small(text) + entries + most, times)
 
     def of_where(self) -> Iterator[Call]:
         """How things are where there are many clocks; where many wait for one; where many are registered on many; where
@@ -361,6 +369,7 @@ class Calls:
         ):
             (self.folder / "log").write_text(log)
             yield self.on_log(["where"], name, text, to_stand(judged(text).bounds.activities))
+            yield self.on_log(["where", "--json"], name, text, to_stand(judged(text).bounds.activities))
 
     def of_reasons(self) -> Iterator[Call]:
         """Somewhat more makings than a power of two, of a step that rests on nearly all, and of one that rests on none;
@@ -443,8 +452,11 @@ class Calls:
         ):
             yield self.logged(name, text, 1)
             steps, seen = judged(text).bounds.steps, 2 * deeds
-            yield self.on_log(["span"], name, text, to_order(activities, deeds, 0) + to_chain(steps))
+            spanned = to_order(activities, deeds, 0) + to_chain(steps)
+            yield self.on_log(["span"], name, text, spanned)
+            yield self.on_log(["span", "--json"], name, text, to_order(activities, deeds, 0) + to_chain(steps))
             yield self.on_log(["lanes", "--path"], name, text, to_lanes(seen) + to_chain(steps))
+            yield self.on_log(["page", "--path"], name, text, spanned + to_mark(steps) + to_draw(seen))
 
     def of_lists(self) -> Iterator[Call]:
         text, path = "def main(){Console.OUT.println(7);}", self.folder / "list"

@@ -42,7 +42,7 @@ PICK_ALONE = "x10clock: --pick goes with --log"
 COUNT_MISPLACED = "x10clock: --count goes without --expect, --json, --log and --pick"
 JSON_MISPLACED = "x10clock: --json goes without --order ask and --runs"
 ROUNDS_MISPLACED = "x10clock: --rounds goes without --path, --svg, --from and --to"
-PAGE_UNCLEAR = "x10clock: page takes either LOG or --outcome, and --limit goes with --outcome"
+PAGE_UNCLEAR = "x10clock: page takes either LOG or --outcome; --limit goes with --outcome, and --path with LOG"
 OVER_FILE = "x10clock: --log would write over FILE"
 OVER_ANSWERS = "x10clock: --log would write over FILE or standard input"
 ASKED_INPUT = "x10clock: --order ask reads standard input, so FILE can't be -"
@@ -127,9 +127,9 @@ COMMANDS: dict[str, tuple[set[str], set[str], list[str]]] = {
     "chart": ({"arg"}, {"module"}, ["FILE", "LOG"]),
     "events": ({"arg"}, {"module", "json"}, ["FILE", "LOG"]),
     "lanes": ({"from", "to", "arg"}, {"module", "svg", "path", "rounds"}, ["FILE", "LOG"]),
-    "page": ({"outcome", "limit", "from", "to", "arg"}, {"module"}, ["FILE", "LOG" + MAYBE]),
-    "where": ({"at", "arg"}, {"module"}, ["FILE", "LOG"]),
-    "span": ({"arg"}, {"module"}, ["FILE", "LOG"]),
+    "page": ({"outcome", "limit", "from", "to", "arg"}, {"module", "path"}, ["FILE", "LOG" + MAYBE]),
+    "where": ({"at", "arg"}, {"module", "json"}, ["FILE", "LOG"]),
+    "span": ({"arg"}, {"module", "json"}, ["FILE", "LOG"]),
     "why": ({"arg"}, {"module"}, ["FILE", "LOG", "STEP"]),
 }
 
@@ -339,8 +339,10 @@ def read(words: list[str]) -> Job:
 
 
 def is_unclear(job: Job) -> bool:
-    """Whether `page` is given a log beside what is for an outcome, or neither a log nor an outcome."""
-    return bool({"outcome", "limit"} & {*job.values}) if "LOG" in job.values else "outcome" not in job.values
+    """Whether `page` is given a log beside what is for an outcome, or an outcome beside what is for a log, or
+    neither."""
+    given = {*job.values, *job.flags}
+    return bool({"outcome", "limit"} & given) if "LOG" in given else "outcome" not in given or "path" in given
 
 
 def of_all(word: str) -> Exception:

@@ -1,6 +1,6 @@
 """The reference for `page`: the source text, the picture, and how things stand behind each step, in their elements, and
-the policy. What stands in each page besides, with its script, means nothing to a run: it is taken from where the
-program has it."""
+the policy; and with `--path` what is told of a critical path, in its own. What stands in each page besides, with its
+script, means nothing to a run: it is taken from where the program has it."""
 
 from __future__ import annotations
 
@@ -11,25 +11,28 @@ import re
 from collections.abc import Iterator
 
 from tests.harness import TOP
-from tests.reference import events, picture
+from tests.reference import events, path, picture, span
 from tests.reference.events import Program
 from tests.reference.lanes import WHOLE, Window
 from tests.reference.logs import Played, Taken
 from tests.reference.naming import Naming
 from tests.reference.where import Place
 
-FURNITURE = TOP / "crates/xk_show_page/src/furniture.rt"
+FURNITURE = [TOP / f"crates/{name}/src/furniture.rt" for name in ("xk_show_page", "xk_path_page")]
 TEXT = re.compile(r'^pub(?:\(crate\))? const (\w+): &str =\s+r(#+)"(.*?)"\2;$', re.MULTILINE | re.DOTALL)
 STYLE, SCRIPT = ("COLOURS", "PLACES", "MARKS"), ("READER", "SHOWER", "MOVER")
-# The elements that hold the source text, the picture and the moments.
+# What a page with a critical path has more of them.
+PATH_STYLE, PATH_SCRIPT = (*STYLE, "PATH_LOOK"), (*SCRIPT, "PATH_SCRIPT")
+# The elements that hold the source text, the picture, the moments and the path.
 SOURCE, PICTURE = '<pre id="source">\n', '<div id="picture" tabindex="0" role="group" aria-label="Lanes of the run">\n'
-MOMENTS = '<script type="text/plain" id="moments">\n'
+MOMENTS, PATH = (f'<script type="text/plain" id="{name}">\n' for name in ("moments", "path"))
 
 
 @functools.cache
 def furniture() -> dict[str, str]:
     """The texts that stand in each page, by their names."""
-    return {name: text for name, _, text in TEXT.findall(FURNITURE.read_text(encoding="utf-8"))}
+    texts = "".join(file.read_text(encoding="utf-8") for file in FURNITURE)
+    return {name: text for name, _, text in TEXT.findall(texts)}
 
 
 def piece(names: tuple[str, ...]) -> str:
@@ -46,13 +49,19 @@ def escaped(text: str) -> str:
     return text.replace("&", "&amp;").replace("<", "&lt;").replace("\r", "&#13;")
 
 
-def head(program: Program) -> str:
-    """What stands before the source text: a policy by which nothing is fetched, and one script and two styles count;
-    and in title and heading the name of the file, but that of standard input."""
+def styled(style: str) -> str:
+    """What stands in the one element of a style that is part of a picture."""
+    return style.partition("<style>")[2].partition("</style>")[0]
+
+
+def head(program: Program, has_path: bool) -> str:
+    """What stands before the source text: a policy by which nothing is fetched, and one script and its own and the
+    picture's styles count; and in title and heading the name of the file, but that of standard input."""
+    style, script = (PATH_STYLE, PATH_SCRIPT) if has_path else (STYLE, SCRIPT)
     title = f"A run{f' of {escaped(program.name)}' if program.name != '-' else ''}"
-    styles = (f"\n{piece(STYLE)}", picture.STYLE.removeprefix("<style>").removesuffix("</style>\n"))
+    styles = [f"\n{piece(style)}", styled(picture.STYLE), *([styled(path.LEGEND)] if has_path else [])]
     policy = (
-        f"default-src 'none'; style-src {' '.join(map(allowed, styles))}; script-src {allowed(chr(10) + piece(SCRIPT))}"
+        f"default-src 'none'; style-src {' '.join(map(allowed, styles))}; script-src {allowed(chr(10) + piece(script))}"
     )
     return f"""<!DOCTYPE html>
 <html lang="en">
@@ -62,7 +71,7 @@ def head(program: Program) -> str:
 <meta http-equiv="Content-Security-Policy" content="{policy}">
 <title>{title}, step by step</title>
 <style>
-{piece(STYLE)}</style>
+{piece(style)}</style>
 </head>
 <body class="still">
 <header>
@@ -96,15 +105,33 @@ def moments(program: Program, played: Played, window: Window) -> Iterator[str]:
             yield line(program, naming, taken)
 
 
-def drawing(program: Program, played: Played, window: Window = WHOLE) -> tuple[str, bool]:
+def path_told(program: Program, played: Played, window: Window) -> str:
+    """What `span` prints; the steps of the path that the picture has; and how many of all of them come from each line
+    of the source text."""
+    way = path.Path(played)
+    lines = sorted(span.line_counts(program, way.steps).items())
+    return "".join(
+        [
+            span.span(program, played),
+            *(f"{way.words(taken)}\n" for taken in way.boxes(window)),
+            *(f"line {line} with {many}\n" for line, many in lines),
+        ]
+    )
+
+
+def drawing(
+    program: Program, played: Played, window: Window = WHOLE, has_path: bool = False
+) -> tuple[str, bool]:
     """The page, and whether its picture is whole; the line that stands in the place of one that is too large stands in
     the page's, too."""
-    drawn, is_whole = picture.drawing(program, played, window)
+    drawn, is_whole = (path.picture_drawing if has_path else picture.drawing)(program, played, window)
     if not drawn.startswith("<svg"):
         return drawn, False
     told = "".join(moments(program, played, window))
+    way = f"</script>\n{PATH}{path_told(program, played, window)}" if has_path else ""
+    script = piece(PATH_SCRIPT if has_path else SCRIPT)
     return (
-        f"{head(program)}{source(program)}</pre>\n{piece(('LISTS',))}{PICTURE}{drawn}</div>\n</section>\n</main>\n"
-        f"{MOMENTS}{told}</script>\n<script>\n{piece(SCRIPT)}</script>\n</body>\n</html>\n",
+        f"{head(program, has_path)}{source(program)}</pre>\n{piece(('LISTS',))}{PICTURE}{drawn}</div>\n</section>\n"
+        f"</main>\n{MOMENTS}{told}{way}</script>\n<script>\n{script}</script>\n</body>\n</html>\n",
         is_whole,
     )

@@ -1,5 +1,5 @@
-"""The reference for `lanes --path` and its picture: what `lanes` draws, with the round of each step and the critical
-path that `span` prints."""
+"""The reference for `lanes --path`, its picture, and `page --path`: what `lanes` draws, with the round of each step and
+the critical path that `span` prints."""
 
 from __future__ import annotations
 
@@ -30,6 +30,13 @@ class Path:
         self.rounds = {number: chain.length for number, chain in chains.items()}
         self.steps = span.path(played, chains)
         self.numbers = {taken.number for taken in self.steps}
+
+    def boxes(self, window: Window) -> list[Taken]:
+        """The steps of the path that a picture has."""
+        return [taken for taken in self.steps if taken.number in window and taken.step.event]
+
+    def words(self, taken: Taken) -> str:
+        return f"step {taken.number} act {taken.who} round {self.rounds[taken.number]}"
 
     def marked(self, words: Callable[[Taken], str]) -> Callable[[Taken], str]:
         """What a step did, behind `*` where it is one of the path's."""
@@ -88,8 +95,8 @@ def picture_drawing(program: Program, played: Played, window: Window = WHOLE) ->
         if taken.step.event:
             rows += number(sheet.left - GAP, drawn.top(0) + 16, path.rounds[taken.number])
         row += 1 + len(taken.advances)
-    boxes = [taken for taken in path.steps if taken.number in window and taken.step.event]
-    told = "".join(f" step {taken.number} act {taken.who} round {path.rounds[taken.number]};" for taken in boxes)
+    boxes = path.boxes(window)
+    told = "".join(f" {path.words(taken)};" for taken in boxes)
     follows = f" Along a critical path of {len(path.steps)} steps goes a line, by these of them:{told} no others."
     head = sheet.head().replace("The lanes of a run<", "The lanes of a run, and its critical path<")
     return (

@@ -1,6 +1,6 @@
 #!/usr/bin/env python3
-"""The reference for commands on a log: `replay`, `chart`, `races`, `span`, `why`, `lanes --path` and `lanes --rounds`
-of a whole run, `events`, `lanes` and `page` of one that may go on, too, and `where` of any log.
+"""The reference for commands on a log: `replay`, `chart`, `races`, `span`, `why`, `lanes --path`, `lanes --rounds` and
+`page --path` of a whole run, `events`, `lanes` and `page` of one that may go on, too, and `where` of any log.
 
     python3 -m tests.reference.runs events [--module] FILE LOG [--arg=N]..
     python3 -m tests.reference.runs lanes [--module] [--svg] [--path] [--rounds] FILE LOG [--arg=N]..
@@ -13,8 +13,8 @@ import pathlib
 import sys
 from functools import partial
 
-from tests.reference import lanes, logs, modules, naming, page, path, picture, races, rounds, source, span, values
-from tests.reference import where, why
+from tests.reference import lanes, logs, modules, naming, page, path, picture, races, rounds, source, span, span_values
+from tests.reference import values, where, where_values, why
 from tests.reference.events import Program
 from tests.reference.lanes import WHOLE
 from tests.reference.logs import Answer, Played, Teller
@@ -63,6 +63,8 @@ def teller(
         return partial(rounds.drawing, program)
     if has_path:
         draw = path.picture_drawing if is_picture else path.drawing
+        if command == "page":
+            draw = partial(page.drawing, has_path=True)
         return lambda played: draw(program, played, window)
     if command in ("lanes", "page"):
         if command == "lanes" and not is_picture:
@@ -75,6 +77,8 @@ def teller(
         return lambda played: with_ending(naming.text(program, played), played)
     if command == "races" and is_json:
         return lambda played: values.racing(program, played)
+    if command == "span" and is_json:
+        return partial(span_values.timing, program)
     of_program = {"races": races_of, "span": span_of, "why": partial(why.why, step=step)}
     if command in of_program:
         return partial(of_program[command], program)
@@ -106,7 +110,8 @@ def answer(
     if isinstance(judged, Refused):
         return 1, "", f"{note(command, program)}x10clock: {judged.line}\n"
     if command == WHERE:
-        return where.answer(program, judged, log, arguments, at)
+        tell_standing = where_values.standings if is_json else where.lines
+        return where.answer(program, judged, log, arguments, at, tell_standing)
     played_by = logs.carry_out if command in SO_FAR and not has_path and not by_rounds else logs.replay
     tell = teller(command, program, window, is_picture, step, is_json, has_path, by_rounds)
     return logs.answer(judged, log, tell, arguments, played_by)

@@ -4,6 +4,7 @@ docs/SPAN.md. Each step has the list of those that come right before it, and the
 from __future__ import annotations
 
 from collections import Counter
+from collections.abc import Iterator
 from itertools import groupby
 from typing import NamedTuple
 
@@ -79,10 +80,15 @@ def stretches(program: Program, steps: list[Taken]) -> list[str]:
     return lines[:STRETCHES] + ([f"path and {more} stretches more\n"] if more > 0 else [])
 
 
+def line_counts(program: Program, steps: list[Taken]) -> Counter[int]:
+    """How many of these steps come from each line of the text."""
+    positions = [program.position(events.frame_before(taken)) for taken in steps]
+    return Counter(int(position.split(":")[0]) for position in positions if position)
+
+
 def source_lines(program: Program, steps: list[Taken]) -> list[str]:
     """The lines of the text that have the most steps of the path."""
-    positions = [program.position(events.frame_before(taken)) for taken in steps]
-    counts = Counter(int(position.split(":")[0]) for position in positions if position)
+    counts = line_counts(program, steps)
     most = sorted(counts.items(), key=lambda item: (-item[1], item[0]))[:LINES]
     return [f"path lines {', '.join(f'{line} with {many}' for line, many in most)}\n"] if most else []
 
@@ -105,16 +111,21 @@ def waits(program: Program, played: Played, of: dict[int, Chain]) -> list[str]:
     ]
 
 
-def phases(program: Program, played: Played, of: dict[int, Chain]) -> list[str]:
-    """A line for each phase of a clock: who came last, and by how much the others came earlier."""
-    lines, doings = list[str](), races.Doings()
+def advanced(played: Played) -> Iterator[tuple[int, int, list[Taken]]]:
+    """Each advance of the run: the clock, the phase that it advances to, and the steps for which it waited."""
+    doings = races.Doings()
     for taken in played.taken:
         before = dict(doings.phases)
         doings.note(taken)
         for advance in taken.advances:
             phase = before.get(advance.clock, 0)
             came = [played.taken[number - 1] for number in doings.signals[advance.clock, phase]]
-            lines.append(phase_line(program, of, advance.clock, phase + 1, came))
+            yield advance.clock, phase + 1, came
+
+
+def phases(program: Program, played: Played, of: dict[int, Chain]) -> list[str]:
+    """A line for each phase of a clock: who came last, and by how much the others came earlier."""
+    lines = [phase_line(program, of, clock, phase, came) for clock, phase, came in advanced(played)]
     more = len(lines) - PHASES
     return lines[:PHASES] + ([f"and {more} phases more\n"] if more > 0 else [])
 

@@ -184,8 +184,18 @@ def beginning(log: Log, at: int) -> Log:
     return taken
 
 
+def lines(place: Place, ends: int | None) -> str:
+    """What is told as lines; the log ends at this step, where one behind it was asked for."""
+    return place.text() + ("" if ends is None else f"the log ends after step {ends}\n")
+
+
 def answer(
-    program: Program, judged: Accepted | Refused, data: bytes, arguments: Arguments = (), at: int | None = None
+    program: Program,
+    judged: Accepted | Refused,
+    data: bytes,
+    arguments: Arguments = (),
+    at: int | None = None,
+    tell: Callable[[Place, int | None], str] = lines,
 ) -> Answer:
     """How things stand behind the steps of a log, or behind so many; its text is judged as for a replay."""
     line = modules.refusal("replay", judged, arguments)
@@ -197,7 +207,6 @@ def answer(
         return 3, "", f"x10clock: {fault}\n"
     played = Played.opening(judged.module, arguments)
     stop = taken(played, log if at is None else beginning(log, at))
-    text, steps = Place(program, played, stop).text(), sum(entry.steps for entry in log)
-    if at is not None and steps < at:
-        return STOPPED, f"{text}the log ends after step {steps}\n", ""
-    return STOPPED if stop else 0, text, ""
+    steps = sum(entry.steps for entry in log)
+    ends = steps if at is not None and steps < at else None
+    return STOPPED if stop or ends is not None else 0, tell(Place(program, played, stop), ends), ""

@@ -28,7 +28,7 @@ use Rattle.xk_program.specs.Origins.{IsFrom}
 use Rattle.xk_answers.specs.Results.{ComesTo, Draw, IsLogText, IsPageOf, IsPicture, IsTelling, Run, is_of_whole, picture_told}
 use Rattle.xk_answers.specs.Results.{shows_origins, way_given}
 use Rattle.xk_answers.specs.Explanation.{Tale, event_values_so_far, events_so_far, image_so_far, lanes_so_far, page_so_far, races_told}
-use Rattle.xk_answers.specs.Explanation.{path_told, rounds_told, span_told, why_told}
+use Rattle.xk_answers.specs.Explanation.{path_page_told, path_told, rounds_told, span_told, why_told}
 use Rattle.xk_answers.specs.OrderedRun.{IsFinished, IsLoggedGreedyRun, IsReplay, IsUncountedBy}
 use Rattle.xk_replay.specs.Replay.{IsLegal}
 use Rattle.xk_show_lanes.specs.declared.window.Window.{Window}
@@ -154,11 +154,14 @@ is_picture picture.Rounds kind file bytes from m args es last told is h =
 is_picture (picture.Page window) kind file bytes from m args es last told is h =
     let shared = map (λ x. x.now) from.shared.items in
     (shared, (is.1 refl).1, (from.origins, (is.1 refl).0, h ∙ ap (λ t. page_so_far file t window m es last shared from.origins) is.0))
+is_picture (picture.PathPage window) kind file bytes from m args es last told is h =
+    let shared = map (λ x. x.now) from.shared.items in
+    (shared, (is.1 refl).1, (from.origins, (is.1 refl).0, h ∙ ap (λ t. path_page_told file t window m es last shared from.origins) is.0))
 is_picture (picture.Races json) kind file bytes from m args es last told is h =
     let shared = map (λ x. x.now) from.shared.items in
     (shared, (is.1 refl).1, (from.origins, (is.1 refl).0, h ∙ ap (λ t. races_told json t m args es shared from.origins) is.0))
-is_picture picture.Span kind file bytes from m args es last told is h =
-    (from.origins, (is.1 refl).0, h ∙ ap (λ t. span_told t m args es from.origins) is.0)
+is_picture (picture.Span json) kind file bytes from m args es last told is h =
+    (from.origins, (is.1 refl).0, h ∙ ap (λ t. span_told json t m args es from.origins) is.0)
 is_picture (picture.Why step) kind file bytes from m args es last told is h =
     let shared = map (λ x. x.now) from.shared.items in
     (shared, (is.1 refl).1, (from.origins, (is.1 refl).0, h ∙ ap (λ t. why_told t step m args es shared from.origins) is.0))

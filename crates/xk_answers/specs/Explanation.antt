@@ -33,16 +33,19 @@ use Rattle.xk_show_picture.specs.Picture.{is_drawn, named_picture_text, picture_
 use Rattle.xk_show_page.specs.Page.{named_page_text, page_text}
 use Rattle.xk_show_path.specs.declared.forms.PathForm.{PathForm}
 use Rattle.xk_show_path.specs.Forms.{is_path_whole, path_text}
+use Rattle.xk_path_page.specs.PathPage.{path_page_text}
 use Rattle.xk_show_rounds.specs.RoundLanes.{round_lanes_text}
 use Rattle.xk_races.specs.Races.{is_race_free}
 use Rattle.xk_races.specs.Text.{races_text}
 use Rattle.xk_show_races.specs.Text.{named_races_text}
 use Rattle.xk_races_json.specs.Races.{module_races_value, source_races_value}
 use Rattle.xk_show_span.specs.Text.{span_text}
+use Rattle.xk_span_json.specs.Span.{span_value}
 use Rattle.xk_show_where.specs.Where.{are_steps_legal, named_where_text, where_text}
+use Rattle.xk_where_json.specs.Standings.{is_all_told, where_value}
 use Rattle.xk_why.specs.Lines.{why_text}
 use Rattle.xk_why.specs.ModuleLines.{is_told, module_why_text}
-use Rattle.xk_beginnings.specs.Beginnings.{first_steps, steps_in}
+use Rattle.xk_beginnings.specs.Beginnings.{end_before, first_steps, steps_in}
 use Rattle.xk_types.specs.declared.world.Entry.{Entry}
 use Rattle.xk_jobs.specs.declared.job.Form.{Form}
 use Rattle.xk_jobs.specs.declared.job.Form.TheVariants as form
@@ -223,6 +226,18 @@ abbrev pub path_told : PathForm → List ℕ → Window → ModuleValue → List
 path_told form text window m log last shared origins =
     (path_of form text shared window m log last origins, is_path_whole form window m log last)
 
+-- a page of such a run of the file, with the rounds of its steps and a critical path
+abbrev pub path_page_of : List ℕ → List ℕ → List (List ℕ) → Window → ModuleValue → List Entry → World → Option (List UnitOrigins)
+    → List ℕ
+path_page_of file text shared window m log last None = path_page_text file no_text None window m log last
+path_page_of file text shared window m log last (Some origins) =
+    path_page_text file (places_in text (Some origins)) (Some shared) window m log last
+
+abbrev pub path_page_told : List ℕ → List ℕ → Window → ModuleValue → List Entry → World → List (List ℕ) → Option (List UnitOrigins)
+    → Tale
+path_page_told file text window m log last shared origins =
+    (path_page_of file text shared window m log last origins, is_drawn window m log last)
+
 -- the same by rounds: a row for each, in place of each step
 abbrev pub rounds_by : List ℕ → List (List ℕ) → ModuleValue → List Entry → World → Option (List UnitOrigins) → List ℕ
 rounds_by text shared m log last None = round_lanes_text no_text None m log last
@@ -231,9 +246,13 @@ rounds_by text shared m log last (Some origins) = round_lanes_text (places_in te
 abbrev pub rounds_told : List ℕ → ModuleValue → List Entry → World → List (List ℕ) → Option (List UnitOrigins) → Tale
 rounds_told text m log last shared origins = (rounds_by text shared m log last origins, are_lanes_whole last)
 
--- how long it had to take, and what takes longest
-abbrev pub span_told : List ℕ → ModuleValue → List ℤ → List Entry → Option (List UnitOrigins) → Tale
-span_told text m args log origins = (span_text (places_in text origins) m args log, is_race_free m args log)
+-- how long it had to take, and what takes longest, as a text, or as a JSON value on a line
+abbrev pub span_by : Bool → PlacesValue → ModuleValue → List ℤ → List Entry → List ℕ
+span_by false p m args log = span_text p m args log
+span_by true p m args log = json_line (span_value p m args log)
+
+abbrev pub span_told : Bool → List ℕ → ModuleValue → List ℤ → List Entry → Option (List UnitOrigins) → Tale
+span_told json text m args log origins = (span_by json (places_in text origins) m args log, is_race_free m args log)
 
 -- what a step of it rests on; of a source text by names, where its shared numbers have these, and with values
 abbrev pub why_of : List ℕ → ℕ → List (List ℕ) → ModuleValue → List ℤ → List Entry → Option (List UnitOrigins) → List ℕ
@@ -284,6 +303,24 @@ abbrev pub told_to : ℕ → List Entry → Tale → Tale
 told_to n log told = if nat_lt (steps_in log) n then (told.0 ++ log_end_line (steps_in log), false) else told
 
 -- the same behind all steps of the log, or behind the first n of them
-abbrev pub where_told : List ℕ → ModuleValue → List ℤ → Option ℕ → List Entry → List (List ℕ) → Option (List UnitOrigins) → Tale
-where_told text m args None log shared origins = stand_told text m args log shared origins
-where_told text m args (Some n) log shared origins = told_to n log (stand_told text m args (first_steps n log) shared origins)
+abbrev pub lines_told : List ℕ → ModuleValue → List ℤ → Option ℕ → List Entry → List (List ℕ) → Option (List UnitOrigins) → Tale
+lines_told text m args None log shared origins = stand_told text m args log shared origins
+lines_told text m args (Some n) log shared origins = told_to n log (stand_told text m args (first_steps n log) shared origins)
+
+-- The same as a JSON value on a line. Where the log ends before what was asked for, this is its last step.
+abbrev pub value_of : List ℕ → List (List ℕ) → ModuleValue → List ℤ → List Entry → Option ℕ → Option (List UnitOrigins) → List ℕ
+value_of text shared m args log ends None = json_line (where_value no_text [] m args log ends)
+value_of text shared m args log ends (Some origins) = json_line (where_value (places_in text (Some origins)) shared m args log ends)
+
+abbrev pub value_told : List ℕ → ModuleValue → List ℤ → List Entry → Option ℕ → List (List ℕ) → Option (List UnitOrigins) → Tale
+value_told text m args log ends shared origins = (value_of text shared m args log ends origins, is_all_told m args log ends)
+
+-- behind all steps of the log, or behind the first n of them
+abbrev pub values_told : List ℕ → ModuleValue → List ℤ → Option ℕ → List Entry → List (List ℕ) → Option (List UnitOrigins) → Tale
+values_told text m args None log shared origins = value_told text m args log None shared origins
+values_told text m args (Some n) log shared origins = value_told text m args (first_steps n log) (end_before n log) shared origins
+
+-- as a text, or as a JSON value
+abbrev pub where_told : Bool → List ℕ → ModuleValue → List ℤ → Option ℕ → List Entry → List (List ℕ) → Option (List UnitOrigins) → Tale
+where_told false text m args at log shared origins = lines_told text m args at log shared origins
+where_told true text m args at log shared origins = values_told text m args at log shared origins

@@ -29,6 +29,7 @@ use Rattle.xk_replay.specs.Chart.{chart_text}
 use Rattle.xk_outcomes.specs.Sets.{AreAllAs, AreDistinctAs, AreShownAs}
 use Rattle.xk_outcomes.specs.declared.listing.Outcome.{Outcome}
 use Rattle.xk_outcomes.specs.LoneOutcomes.{IsOneOfManyAs}
+use Rattle.xk_outcomes.specs.Numbering.{AreNumberedAs}
 use Rattle.xk_outcomes.specs.PlainRuns.{ArePlainListedAs}
 use Rattle.xk_outcome_lists.specs.Text.{completeness, outcomes_text}
 use Rattle.xk_outcomes.specs.declared.all_outcomes.Limit.{Limit}
@@ -36,7 +37,7 @@ use Rattle.xk_outcomes.specs.Limits.{GoesFar, limit_of}
 use Rattle.xk_outcome_lists.specs.Expected.{AreExpected}
 use Rattle.xk_outcome_lists.specs.declared.holding.Verdict.{Verdict}
 use Rattle.xk_outcome_lists.specs.declared.holding.Verdict.TheVariants as verdict
-use Rattle.xk_outcome_count.specs.Counts.{AreAsMany, AreAtLeast, GoesAsFar}
+use Rattle.xk_outcome_count.specs.Counts.{AreAsMany, AreAtLeast, GoesAsFar, IsCutOff}
 use Rattle.xk_outcome_count.specs.Text.{count_line}
 use Rattle.xk_outcome_count.specs.declared.counting.Counted.{Counted}
 use Rattle.xk_json.specs.Objects.{json_line}
@@ -49,7 +50,8 @@ use Rattle.xk_program.specs.Origins.{IsByNames, IsByOrigins}
 use Rattle.xk_hints.specs.Words.{HintValue}
 use Rattle.xk_answers.specs.Explanation.{HaveHints, IsProgramListed, Tale, acceptance_told, all_told, event_values_so_far}
 use Rattle.xk_answers.specs.Explanation.{events_so_far, image_so_far}
-use Rattle.xk_answers.specs.Explanation.{lanes_so_far, page_so_far, path_told, races_told, rounds_told, span_told, where_told, why_told}
+use Rattle.xk_answers.specs.Explanation.{lanes_so_far, page_so_far, path_page_told, path_told, races_told, rounds_told, span_told}
+use Rattle.xk_answers.specs.Explanation.{where_told, why_told}
 
 -- what is told as one JSON value: a run in an order, by rounds, or by workers, whose log is kept or not; outcomes, of which so many are
 -- looked for, and of one the log is kept or not; or what outcomes say of a list
@@ -58,7 +60,7 @@ pub data Shown : Type 0 where
   OutcomesShown : Bool → Option ℕ → ℕ → Bool → Shown
   ExpectedShown : Bool → Option ℕ → Shown
 
--- what is to be done with a module; what is explained is a JSON value or not, and so are races; a run is in an order, by rounds, or by workers, and has its log kept or not; some
+-- what is to be done with a module; what is explained is a JSON value or not, and so are races, and how things stand; a run is in an order, by rounds, or by workers, and has its log kept or not; some
 -- picture is drawn of one; it is told how things stand behind a log, or behind so many of its steps, which races the run in the order `first` has, or how often so many runs by chance,
 -- from this seed on, print what; of outcomes, as lists of numbers or without their order, so many are looked for, and of one, counted from 1, the log
 -- is kept or not, or they are counted, or held against a list, or of one the page of its run is made; or some of this is told as one JSON value
@@ -70,7 +72,7 @@ pub data Doing : Type 0 where
   Run : Way → Bool → Doing
   Replay : Doing
   Draw : Picture → Doing
-  Where : Option ℕ → Doing
+  Where : Bool → Option ℕ → Doing
   Races : Bool → Doing
   Tally : ℕ → ℕ → Doing
   Outcomes : Bool → Option ℕ → ℕ → Bool → Doing
@@ -92,6 +94,10 @@ abbrev pub lanes_given : Option ℕ → Option ℕ → Bool → Bool → Picture
 lanes_given from to svg path =
     if path then picture.Path (form_of svg) (window_given from to)
     else (if svg then picture.Image (window_given from to) else picture.Lanes (window_given from to))
+
+-- the same as a page
+abbrev pub page_given : Option ℕ → Option ℕ → Bool → Picture
+page_given from to path = if path then picture.PathPage (window_given from to) else picture.Page (window_given from to)
 
 -- these bytes are the text of a log of these entries
 abbrev pub IsLogText : List ℕ → List Entry → Type 0
@@ -132,6 +138,7 @@ pub record AreOutcomes (m : ModuleValue) (args : List ℤ) (sets : Bool) (limit 
   pub lone : complete ≡ false → IsOneOfManyAs sets m args
   pub plain : complete ≡ false → ArePlainListedAs sets m args list
   pub far : GoesFar m args sets limit list complete
+  pub order : AreNumberedAs sets m args limit.entries list far.entries
   pub text_is : text ≡ outcomes_text list complete
   pub whole_is : whole ≡ (complete && not (lacks_log keeps pick list))
   pub log_is : log ≡ kept_log keeps pick list
@@ -151,6 +158,7 @@ pub record AreCounted (m : ModuleValue) (args : List ℤ) (sets : Bool) (limit :
   pub exact : counted.complete ≡ true → AreAsMany sets m args counted.count
   pub lone : counted.complete ≡ false → IsOneOfManyAs sets m args
   pub far : counted.complete ≡ false → GoesAsFar sets m args limit counted.count
+  pub cut : counted.complete ≡ false → sets ≡ false → IsCutOff m args limit.entries counted.count
   pub text_is : text ≡ count_line counted
   pub whole_is : whole ≡ counted.complete
   pub log_is : log ≡ None
@@ -255,7 +263,7 @@ ComesTo _ m args logged _ = ⊥
 
 -- What is told of a run of the module that the bytes give, by their lines where they are a source text: its chart; by their names, too,
 -- what others see of its steps, also as JSON values, the same with a lane for each activity, also as an image, with a critical path, by
--- rounds, or as a page, its races, and what a step rests on; or how long it had to take.
+-- rounds, or as a page, with a critical path or without, its races, and what a step rests on; or how long it had to take.
 abbrev pub IsPicture : Picture → Form → List ℕ → List ℕ → ModuleValue → List ℤ → List Entry → World → Tale → Type 0
 IsPicture picture.Chart kind file bytes m args es last told = told ≡ all_told (chart_text m args es)
 IsPicture picture.Events kind file bytes m args es last told = IsByNames kind bytes (events_so_far bytes m args es last) told
@@ -265,8 +273,10 @@ IsPicture (picture.Image window) kind file bytes m args es last told = IsByNames
 IsPicture (picture.Path form window) kind file bytes m args es last told = IsByNames kind bytes (path_told form bytes window m es last) told
 IsPicture picture.Rounds kind file bytes m args es last told = IsByNames kind bytes (rounds_told bytes m es last) told
 IsPicture (picture.Page window) kind file bytes m args es last told = IsByNames kind bytes (page_so_far file bytes window m es last) told
+IsPicture (picture.PathPage window) kind file bytes m args es last told =
+    IsByNames kind bytes (path_page_told file bytes window m es last) told
 IsPicture (picture.Races json) kind file bytes m args es last told = IsByNames kind bytes (races_told json bytes m args es) told
-IsPicture picture.Span kind file bytes m args es last told = IsByOrigins kind bytes (span_told bytes m args es) told
+IsPicture (picture.Span json) kind file bytes m args es last told = IsByOrigins kind bytes (span_told json bytes m args es) told
 IsPicture (picture.Why step) kind file bytes m args es last told = IsByNames kind bytes (why_told bytes step m args es) told
 
 -- whether it is told by the lines of a source text
@@ -294,15 +304,16 @@ picture_told (picture.Image window) file bytes shared m args es last origins = i
 picture_told (picture.Path form window) file bytes shared m args es last origins = path_told form bytes window m es last shared origins
 picture_told picture.Rounds file bytes shared m args es last origins = rounds_told bytes m es last shared origins
 picture_told (picture.Page window) file bytes shared m args es last origins = page_so_far file bytes window m es last shared origins
+picture_told (picture.PathPage window) file bytes shared m args es last origins = path_page_told file bytes window m es last shared origins
 picture_told (picture.Races json) file bytes shared m args es last origins = races_told json bytes m args es shared origins
-picture_told picture.Span file bytes shared m args es last origins = span_told bytes m args es origins
+picture_told (picture.Span json) file bytes shared m args es last origins = span_told json bytes m args es origins
 picture_told (picture.Why step) file bytes shared m args es last origins = why_told bytes step m args es shared origins
 
 -- Where things stand behind the steps of a log, or behind so many, is told by the lines and names of a source text. The log need not be
 -- that of a whole run.
-abbrev pub IsWhereabouts : Option ℕ → Form → List ℕ → ModuleValue → List ℤ → List ℕ → Tale → Type 0
-IsWhereabouts at kind bytes m args logged told =
-    AreArguments m args × ((es : List Entry) × IsLogText logged es × IsByNames kind bytes (where_told bytes m args at es) told)
+abbrev pub IsWhereabouts : Bool → Option ℕ → Form → List ℕ → ModuleValue → List ℤ → List ℕ → Tale → Type 0
+IsWhereabouts json at kind bytes m args logged told =
+    AreArguments m args × ((es : List Entry) × IsLogText logged es × IsByNames kind bytes (where_told json bytes m args at es) told)
 
 -- the races of the run in the order `first` are told
 abbrev pub AreFirstRaces : Bool → Form → List ℕ → ModuleValue → List ℤ → Tale → Type 0
@@ -353,7 +364,7 @@ IsTelling (Explain json) kind file bytes m args logged told =
 IsTelling Listing kind file bytes m args logged told = IsProgramListed kind bytes m told.0 × (told.1 ≡ true)
 IsTelling (Draw picture) kind file bytes m args logged told =
     IsAccepted m × OfRun (is_of_whole picture) m args logged (λ es last. IsPicture picture kind file bytes m args es last told)
-IsTelling (Where at) kind file bytes m args logged told = IsAccepted m × IsWhereabouts at kind bytes m args logged told
+IsTelling (Where json at) kind file bytes m args logged told = IsAccepted m × IsWhereabouts json at kind bytes m args logged told
 IsTelling (Races json) kind file bytes m args logged told = IsAccepted m × AreFirstRaces json kind bytes m args told
 IsTelling (Tally seed runs) kind file bytes m args logged told = IsAccepted m × AreArguments m args × IsTallied m args seed runs told
 IsTelling (OutcomePage window limit pick) kind file bytes m args logged told =

@@ -16,7 +16,7 @@ mod whereabouts;
 pub use explanation::{Refused, listing, unsaid};
 pub use first_races::raced;
 pub use job_result::Done;
-pub use picture::{Picture, Tale, drawn, lanes_given, window_given};
+pub use picture::{Picture, Tale, drawn, lanes_given, page_given, window_given};
 pub use replay::replayed;
 pub use runs::{Finished, run_as};
 pub use so_far::page_so_far;

@@ -6,14 +6,15 @@ ghost use Rattle.xk_types.specs.Acceptance.{IsAccepted};
 ghost use Rattle.xk_types.specs.World.{AreArguments};
 ghost use Rattle.xk_jobs.specs.Status.{status_program};
 ghost use Rattle.xk_jobs.specs.declared.job.Form.{Form as FormValue};
-ghost use Rattle.xk_answers.specs.Results.{Draw, IsTelling, IsText, is_of_whole, lanes_given, picture_told, shows_origins, window_given};
+ghost use Rattle.xk_answers.specs.Results.{Draw, IsTelling, IsText, is_of_whole, lanes_given, page_given};
+ghost use Rattle.xk_answers.specs.Results.{picture_told, shows_origins, window_given};
 ghost use Rattle.xk_answers.specs.Refusals.{AgainstModule, AgainstRun, MayStand};
 ghost use Rattle.xk_program.specs.Origins.{IsFrom};
-ghost use Rattle.xk_answers.specs.Explanation.{events_told, image_told, lanes_told, named_races, page_told, path_told};
+ghost use Rattle.xk_answers.specs.Explanation.{events_told, image_told, lanes_told, named_races, page_told, path_page_told, path_told};
 ghost use Rattle.xk_answers.specs.Explanation.{races_told, plain_races};
-ghost use Rattle.xk_answers.specs.Explanation.{rounds_told, span_told};
+ghost use Rattle.xk_answers.specs.Explanation.{rounds_told, span_by, span_told};
 ghost use Rattle.xk_races.specs.Races.{is_race_free};
-ghost use Rattle.xk_show_events.specs.Events.{places_of};
+ghost use Rattle.xk_show_events.specs.Events.{no_text, places_of};
 ghost use Rattle.xk_program.specs.Lines.{status_of};
 
 use crate::event_values::event_values_so_far;
@@ -23,6 +24,7 @@ use crate::replay::{run_again, run_so_far};
 use crate::so_far::{events_so_far, image_so_far, lanes_so_far, page_so_far};
 use std::alloc::{AllocError, Global};
 use xk_bounds::Verified;
+use xk_path_page::{module_path_page, source_path_page};
 use xk_program::{Fault, Program, Provenance, runnable};
 use xk_races::{RaceReport, module_races};
 use xk_races_json::{module_race_values, source_race_values};
@@ -36,7 +38,8 @@ use xk_show_path::{PathForm, form_of, module_path, source_path};
 use xk_show_picture::{module_picture, source_picture};
 use xk_show_races::source_races;
 use xk_show_rounds::{module_rounds, source_rounds};
-use xk_show_span::{module_span, source_span};
+use xk_show_span::{SpanReport, module_span, source_span};
+use xk_span_json::{module_span_value, source_span_value};
 use xk_types::Source;
 use xk_unit_origins::UnitOrigins;
 
@@ -59,10 +62,12 @@ pub enum Picture {
     Rounds,
     /// The same as a page that goes through it step by step.
     Page(Window),
+    /// The same as such a page, with the rounds of steps and a critical path.
+    PathPage(Window),
     /// Its races, also as a JSON value.
     Races(bool),
-    /// How long it had to take.
-    Span,
+    /// How long it had to take, also as a JSON value.
+    Span(bool),
     /// What this step of it rests on.
     Why(u64),
 }
@@ -79,7 +84,7 @@ impl Picture {
             | Picture::Image(_)
             | Picture::Page(_) => false,
             Picture::Path(..) | Picture::Rounds | Picture::Chart | Picture::Races(_) => true,
-            Picture::Span | Picture::Why(_) => true,
+            Picture::PathPage(_) | Picture::Span(_) | Picture::Why(_) => true,
         }
     }
 }
@@ -116,6 +121,17 @@ pub fn lanes_given(from: Option<u64>, to: Option<u64>, svg: bool, path: bool) ->
         return Picture::Image(window);
     }
     Picture::Lanes(window)
+}
+
+/// A page of these steps, with a critical path or without.
+pub fn page_given(from: Option<u64>, to: Option<u64>, path: bool) -> Picture
+    ensures { result ≡ page_given from to path }
+{
+    let window = window_given(from, to);
+    if path {
+        return Picture::PathPage(window);
+    }
+    Picture::Page(window)
 }
 
 /// This picture of the run of the file's program with these arguments that the log has, if it is accepted and main takes as many. Where it isn't run, no
@@ -230,9 +246,10 @@ fn whole_told(
             whole: true,
         }),
         Picture::Races(json) => races_of(alloc, json, from, ended),
-        Picture::Span => span_of(alloc, from, ended),
+        Picture::Span(json) => span_of(alloc, json, from, ended),
         Picture::Path(form, window) => path_of(alloc, from, ended, form, window),
         Picture::Rounds => rounds_of(alloc, from, ended),
+        Picture::PathPage(window) => path_page_of(alloc, file, from, ended, window),
         Picture::Why(step) => reasons_of(alloc, from, ended, step),
         Picture::Events => unreachable!(),
         Picture::EventValues => unreachable!(),
@@ -263,11 +280,12 @@ fn so_far_told(
         Picture::Lanes(window) => lanes_so_far(alloc, from, legal, window),
         Picture::Image(window) => image_so_far(alloc, from, legal, window),
         Picture::Page(window) => page_so_far(alloc, file, from, legal, window),
+        Picture::PathPage(_) => unreachable!(),
         Picture::Path(..) => unreachable!(),
         Picture::Rounds => unreachable!(),
         Picture::Chart => unreachable!(),
         Picture::Races(_) => unreachable!(),
-        Picture::Span => unreachable!(),
+        Picture::Span(_) => unreachable!(),
         Picture::Why(_) => unreachable!(),
     }
 }
@@ -450,7 +468,53 @@ fn rounds_of(alloc: Global, from: &Provenance<'_>, ended: &Ended<'_>) -> Result<
     }
 }
 
-/// The same as a page.
+/// A page of such a run, with the rounds of its steps and a critical path.
+fn path_page_of(
+    alloc: Global,
+    file: &str,
+    from: &Provenance<'_>,
+    ended: &Ended<'_>,
+    window: Window,
+) -> Result<Tale, AllocError>
+    ensures { IfOk result (λ tale. (tale.text.items, tale.whole)
+        ≡ path_page_told file.now from.now.text.now window
+        ended.now.module.now ended.now.log.items ended.now.core.world
+        (map (λ x. x.now) from.now.shared.items) from.now.origins) }
+{
+    match &from.origins {
+        Some(origins) => named_path_page_of(alloc, file, from, origins.units(), ended, window),
+        None => {
+            let drawing = module_path_page(alloc, file, ended, window)?;
+            Ok(Tale {
+                text: drawing.text,
+                whole: drawing.whole,
+            })
+        }
+    }
+}
+
+/// The same of a source text whose units have these origins.
+fn named_path_page_of(
+    alloc: Global,
+    file: &str,
+    from: &Provenance<'_>,
+    units: &[UnitOrigins<'_>],
+    ended: &Ended<'_>,
+    window: Window,
+) -> Result<Tale, AllocError>
+    ensures { IfOk result (λ tale. (tale.text.items, tale.whole)
+        ≡ path_page_told file.now from.now.text.now window
+        ended.now.module.now ended.now.log.items ended.now.core.world
+        (map (λ x. x.now) from.now.shared.items) (Some units.now)) }
+{
+    let drawing = source_path_page(alloc, file, from.text, units, &from.shared, ended, window)?;
+    Ok(Tale {
+        text: drawing.text,
+        whole: drawing.whole,
+    })
+}
+
+/// A run, whether it came to its end or not, as a page.
 pub(crate) fn page_of(
     alloc: Global,
     file: &str,
@@ -585,30 +649,36 @@ fn module_report(alloc: Global, json: bool, ended: &Ended<'_>) -> Result<RaceRep
     module_races(alloc, ended)
 }
 
-/// How long a run had to take that came to its end.
-fn span_of(alloc: Global, from: &Provenance<'_>, ended: &Ended<'_>) -> Result<Tale, AllocError>
+/// How long a run had to take that came to its end, as a text or as a JSON value.
+fn span_of(
+    alloc: Global,
+    json: bool,
+    from: &Provenance<'_>,
+    ended: &Ended<'_>,
+) -> Result<Tale, AllocError>
     ensures { IfOk result (λ tale. (tale.text.items, tale.whole)
-        ≡ span_told from.now.text.now ended.now.module.now
+        ≡ span_told json from.now.text.now ended.now.module.now
         ended.now.core.world.arguments ended.now.log.items from.now.origins) }
 {
     match &from.origins {
-        Some(origins) => source_span_of(alloc, from, origins.units(), ended),
-        None => module_span_of(alloc, from, ended),
+        Some(origins) => source_span_of(alloc, json, from, origins.units(), ended),
+        None => module_span_of(alloc, json, from, ended),
     }
 }
 
 /// The same of a source text whose units have these origins.
 fn source_span_of(
     alloc: Global,
+    json: bool,
     from: &Provenance<'_>,
     units: &[UnitOrigins<'_>],
     ended: &Ended<'_>,
 ) -> Result<Tale, AllocError>
     ensures { IfOk result (λ tale. (tale.text.items, tale.whole)
-        ≡ span_told from.now.text.now ended.now.module.now
+        ≡ span_told json from.now.text.now ended.now.module.now
         ended.now.core.world.arguments ended.now.log.items (Some units.now)) }
 {
-    let report = source_span(alloc, from.text, units, ended)?;
+    let report = source_span_by(alloc, json, from.text, units, ended)?;
     Ok(Tale {
         text: report.text,
         whole: report.free,
@@ -618,16 +688,49 @@ fn source_span_of(
 /// The same of a module that is given as such.
 fn module_span_of(
     alloc: Global,
+    json: bool,
     from: &Provenance<'_>,
     ended: &Ended<'_>,
 ) -> Result<Tale, AllocError>
     ensures { IfOk result (λ tale. (tale.text.items, tale.whole)
-        ≡ span_told from.now.text.now ended.now.module.now
+        ≡ span_told json from.now.text.now ended.now.module.now
         ended.now.core.world.arguments ended.now.log.items None) }
 {
-    let report = module_span(alloc, ended)?;
+    let report = module_span_by(alloc, json, ended)?;
     Ok(Tale {
         text: report.text,
         whole: report.free,
     })
+}
+
+/// How long a run of a source text's module had to take.
+fn source_span_by(
+    alloc: Global,
+    json: bool,
+    text: &[u8],
+    units: &[UnitOrigins<'_>],
+    ended: &Ended<'_>,
+) -> Result<SpanReport, AllocError>
+    ensures text { IfOk result (λ r. r.text.items ≡ span_by json (places_of text.now units.now)
+        ended.now.module.now ended.now.core.world.arguments ended.now.log.items) }
+    ensures free { IfOk result (λ r. r.free ≡ is_race_free
+        ended.now.module.now ended.now.core.world.arguments ended.now.log.items) }
+{
+    if json {
+        return source_span_value(alloc, text, units, ended);
+    }
+    source_span(alloc, text, units, ended)
+}
+
+/// How long a run of a module had to take.
+fn module_span_by(alloc: Global, json: bool, ended: &Ended<'_>) -> Result<SpanReport, AllocError>
+    ensures text { IfOk result (λ r. r.text.items ≡ span_by json no_text
+        ended.now.module.now ended.now.core.world.arguments ended.now.log.items) }
+    ensures free { IfOk result (λ r. r.free ≡ is_race_free
+        ended.now.module.now ended.now.core.world.arguments ended.now.log.items) }
+{
+    if json {
+        return module_span_value(alloc, ended);
+    }
+    module_span(alloc, ended)
 }

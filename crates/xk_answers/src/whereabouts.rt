@@ -9,25 +9,28 @@ ghost use Rattle.xk_jobs.specs.Status.{status_program};
 ghost use Rattle.xk_answers.specs.Results.{IsTelling, IsText, Where};
 ghost use Rattle.xk_answers.specs.Refusals.{AgainstReading, AgainstText};
 ghost use Rattle.xk_program.specs.Origins.{IsFrom};
-ghost use Rattle.xk_answers.specs.Explanation.{stand_told, told_to, where_told};
+ghost use Rattle.xk_answers.specs.Explanation.{lines_told, stand_told, told_to, value_of, value_told, values_told, where_told};
 ghost use Rattle.xk_program.specs.Lines.{status_of};
+ghost use Rattle.xk_where_json.specs.Standings.{is_all_told};
 
 use crate::job_result::Done;
 use crate::picture::Tale;
 use std::alloc::{AllocError, Global};
-use xk_beginnings::{first_steps, lacking};
+use xk_beginnings::{end_before, first_steps, lacking};
 use xk_bounds::Verified;
 use xk_log::read_log;
 use xk_messages::log_end_line;
 use xk_program::{Fault, Program, Provenance, runnable};
-use xk_show_where::{module_where, named_where};
+use xk_show_where::{Whereabouts, module_where, named_where};
 use xk_types::{Entry, Source};
 use xk_unit_origins::UnitOrigins;
+use xk_where_json::{module_where_value, source_where_value};
 
-/// How things stand behind the steps of the log, or behind so many, as far as they can be taken, of the program with these arguments, if it is
-/// accepted and main takes as many. Where it isn't run, no log is read.
+/// How things stand behind the steps of the log, or behind so many, as far as they can be taken, of the program with these
+/// arguments, as a text or as a JSON value, if it is accepted and main takes as many. Where it isn't run, no log is read.
 pub fn stood<L: Source>(
     alloc: Global,
+    json: bool,
     program: Program<'_>,
     at: Option<u64>,
     arguments: &[i64],
@@ -36,7 +39,7 @@ pub fn stood<L: Source>(
     ensures done { (form : FormValue) (file bytes : List ℕ)
         → IsFrom true form bytes program.entry.from
         → IfOk result (λ d. OfSome (L.remaining log_in.old) (λ logged. IsText
-        (IsTelling (Where at) form file bytes program.entry.module arguments.now logged) d)) }
+        (IsTelling (Where json at) form file bytes program.entry.module arguments.now logged) d)) }
     ensures no_fault { OnOk result (L.fault_count log_in.new ≡ L.fault_count log_in.old) }
     ensures fault { IfErr result (AgainstText program.entry.module arguments.now
         (L.remaining log_in.old) (L.fault_count log_in.old) (L.fault_count log_in.new)) }
@@ -44,13 +47,14 @@ pub fn stood<L: Source>(
         (λ f. status_of f ≡ status_program → log_in.new ≡ log_in.old) }
 {
     let verified = runnable(alloc, program.module, arguments)?;
-    stood_by(alloc, &program.from, &verified, at, arguments, log_in)
+    stood_by(alloc, json, &program.from, &verified, at, arguments, log_in)
 }
 
 /// The same of an accepted module.
 #[tactic(auto, using(crate::proofs::LogLemmas::reading_stands))]
 fn stood_by<L: Source>(
     alloc: Global,
+    json: bool,
     from: &Provenance<'_>,
     verified: &Verified,
     at: Option<u64>,
@@ -61,14 +65,14 @@ fn stood_by<L: Source>(
     requires taken { AreArguments verified.now arguments.now }
     ensures done { (form : FormValue) (file bytes : List ℕ) → IsFrom true form bytes from.now
         → IfOk result (λ d. OfSome (L.remaining log_in.old) (λ logged. IsText
-        (IsTelling (Where at) form file bytes verified.now arguments.now logged) d)) }
+        (IsTelling (Where json at) form file bytes verified.now arguments.now logged) d)) }
     ensures no_fault { OnOk result (L.fault_count log_in.new ≡ L.fault_count log_in.old) }
     ensures fault { IfErr result (AgainstReading (L.remaining log_in.old)
         (L.fault_count log_in.old) (L.fault_count log_in.new)) }
     ensures of_log { IfErr result (λ f. status_of f ≢ status_program) }
 {
     let log = read_log(alloc, log_in)?;
-    let tale = whereabouts(alloc, from, verified, at, arguments, log.entries())?;
+    let tale = whereabouts(alloc, json, from, verified, at, arguments, log.entries())?;
     Ok(Done::Told {
         text: tale.text,
         whole: tale.whole,
@@ -78,6 +82,7 @@ fn stood_by<L: Source>(
 /// The same by the entries of the log.
 fn whereabouts(
     alloc: Global,
+    json: bool,
     from: &Provenance<'_>,
     verified: &Verified,
     at: Option<u64>,
@@ -86,7 +91,27 @@ fn whereabouts(
 ) -> Result<Tale, AllocError>
     requires { AreArguments verified.now arguments.now }
     ensures { IfOk result (λ tale. (tale.text.items, tale.whole)
-        ≡ where_told from.now.text.now verified.now arguments.now at log.now
+        ≡ where_told json from.now.text.now verified.now arguments.now at log.now
+        (map (λ x. x.now) from.now.shared.items) from.now.origins) }
+{
+    if json {
+        return values_behind(alloc, from, verified, at, arguments, log);
+    }
+    lines_behind(alloc, from, verified, at, arguments, log)
+}
+
+/// The same as a text.
+fn lines_behind(
+    alloc: Global,
+    from: &Provenance<'_>,
+    verified: &Verified,
+    at: Option<u64>,
+    arguments: &[i64],
+    log: &[Entry],
+) -> Result<Tale, AllocError>
+    requires { AreArguments verified.now arguments.now }
+    ensures { IfOk result (λ tale. (tale.text.items, tale.whole)
+        ≡ lines_told from.now.text.now verified.now arguments.now at log.now
         (map (λ x. x.now) from.now.shared.items) from.now.origins) }
 {
     match at {
@@ -159,4 +184,77 @@ fn stand_by_names(
         text: found.text,
         whole: found.whole,
     })
+}
+
+/// The same as a JSON value.
+fn values_behind(
+    alloc: Global,
+    from: &Provenance<'_>,
+    verified: &Verified,
+    at: Option<u64>,
+    arguments: &[i64],
+    log: &[Entry],
+) -> Result<Tale, AllocError>
+    requires { AreArguments verified.now arguments.now }
+    ensures { IfOk result (λ tale. (tale.text.items, tale.whole)
+        ≡ values_told from.now.text.now verified.now arguments.now at log.now
+        (map (λ x. x.now) from.now.shared.items) from.now.origins) }
+{
+    match at {
+        Some(step) => {
+            let beginning = first_steps(alloc, log, step)?;
+            let ends = end_before(log, step);
+            value(alloc, from, verified, arguments, &beginning, ends)
+        }
+        None => value(alloc, from, verified, arguments, log, None),
+    }
+}
+
+/// The value behind all steps of the entries, where the log that they are of ends at this step, if it does.
+fn value(
+    alloc: Global,
+    from: &Provenance<'_>,
+    verified: &Verified,
+    arguments: &[i64],
+    log: &[Entry],
+    ends: Option<u64>,
+) -> Result<Tale, AllocError>
+    requires { AreArguments verified.now arguments.now }
+    ensures { IfOk result (λ tale. (tale.text.items, tale.whole)
+        ≡ value_told from.now.text.now verified.now arguments.now log.now ends
+        (map (λ x. x.now) from.now.shared.items) from.now.origins) }
+{
+    let found = value_by(alloc, from, verified, arguments, log, ends)?;
+    Ok(Tale {
+        text: found.text,
+        whole: found.whole,
+    })
+}
+
+/// The same; of a source text by names.
+fn value_by(
+    alloc: Global,
+    from: &Provenance<'_>,
+    verified: &Verified,
+    arguments: &[i64],
+    log: &[Entry],
+    ends: Option<u64>,
+) -> Result<Whereabouts, AllocError>
+    requires { AreArguments verified.now arguments.now }
+    ensures text { IfOk result (λ r. r.text.items ≡ value_of from.now.text.now
+        (map (λ x. x.now) from.now.shared.items) verified.now arguments.now log.now ends
+        from.now.origins) }
+    ensures whole { IfOk result (λ r. r.whole
+        ≡ is_all_told verified.now arguments.now log.now ends) }
+{
+    match &from.origins {
+        Some(origins) => {
+            let units = origins.units();
+            let shared = &from.shared;
+            source_where_value(
+                alloc, from.text, units, shared, verified, arguments, log, ends,
+            )
+        }
+        None => module_where_value(alloc, verified, arguments, log, ends),
+    }
 }

@@ -1,5 +1,5 @@
 -- The beginning of a log, up to a step. This project's own.
-use Rattle.std.specs.Prelude.{ℕ, zero, suc, ◌-◌, nat_le, List, [], ◌∷◌, length, if◌then◌else◌}
+use Rattle.std.specs.Prelude.{ℕ, zero, suc, ◌-◌, nat_le, nat_lt, List, [], ◌∷◌, length, Option, Some, None, if◌then◌else◌}
 use Rattle.std.proofs.Common.{zero-lt-suc}
 use Rattle.xk_types.specs.declared.world.Entry.{Entry}
 use Rattle.xk_types.specs.Logs.{schedule_of}
@@ -17,3 +17,7 @@ cut_entry (suc k) e = record { act = e.act; steps = suc k; at_least_one = zero-l
 abbrev pub first_steps : ℕ → List Entry → List Entry
 first_steps n [] = []
 first_steps n (e ∷ es) = if nat_le e.steps n then e ∷ first_steps (n - e.steps) es else cut_entry n e
+
+-- the last step of a log that has no step n: where it ends
+abbrev pub end_before : ℕ → List Entry → Option ℕ
+end_before n log = if nat_lt (steps_in log) n then Some (steps_in log) else None

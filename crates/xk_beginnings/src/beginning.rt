@@ -3,7 +3,7 @@
 ghost use Rattle.std.specs.Prelude.{◌≡◌, ◌-◌, ◌<◌, ℕ, List, take, IfOk, option_to_list};
 ghost use Rattle.xk_types.specs.declared.world.Entry.{Entry as EntryValue};
 ghost use Rattle.xk_types.specs.Logs.{schedule_of};
-ghost use Rattle.xk_beginnings.specs.Beginnings.{cut_entry, first_steps, steps_in};
+ghost use Rattle.xk_beginnings.specs.Beginnings.{cut_entry, end_before, first_steps, steps_in};
 
 use std::alloc::{AllocError, Global};
 use xk_types::Entry;
@@ -51,6 +51,17 @@ pub fn lacking(log: &[Entry], count: u64) -> u64
         left = left.saturating_sub(u64::from(entry.steps));
     }
     left
+}
+
+/// The last step of a log that has fewer than so many; None where it has them.
+pub fn end_before(log: &[Entry], count: u64) -> Option<u64>
+    ensures { result ≡ end_before count log.now }
+{
+    let lacking = lacking(log, count);
+    if lacking == 0 {
+        return None;
+    }
+    Some(count - lacking)
 }
 
 /// What the first steps of a log are: the beginning of its schedule. Nothing here is computed.

@@ -3,4 +3,4 @@
 
 mod beginning;
 
-pub use beginning::{beginnings, first_steps, lacking};
+pub use beginning::{beginnings, end_before, first_steps, lacking};

@@ -171,13 +171,19 @@ abbrev pub lanes_line : App
 lanes_line = on_file (codes "lanes")
     (module_flag ∷ log_place ∷ arg_option ∷ from_option ∷ to_option ∷ flag (codes "svg") ∷ flag (codes "path") ∷ flag (codes "rounds") ∷ [])
 
--- makes a page of the run that a log has, or of an outcome, of which so many are looked for, maybe from a step on and up to one
+-- makes a page of the run that a log has, maybe with a critical path, or of an outcome, of which so many are looked for, maybe from a step on
+-- and up to one
 abbrev pub page_line : App
-page_line = on_file (codes "page") (module_flag ∷ log_choice ∷ outcome_option ∷ limit_option ∷ arg_option ∷ from_option ∷ to_option ∷ [])
+page_line = on_file (codes "page")
+    (module_flag ∷ log_choice ∷ outcome_option ∷ limit_option ∷ arg_option ∷ from_option ∷ to_option ∷ flag (codes "path") ∷ [])
 
--- tells how things stand, maybe after a step
+-- tells how things stand, maybe after a step, maybe as a JSON value
 abbrev pub where_line : App
-where_line = on_file (codes "where") (module_flag ∷ log_place ∷ arg_option ∷ at_option ∷ [])
+where_line = on_file (codes "where") (module_flag ∷ log_place ∷ arg_option ∷ at_option ∷ json_flag ∷ [])
+
+-- tells how long a run had to take, maybe as a JSON value
+abbrev pub span_line : App
+span_line = on_file (codes "span") (module_flag ∷ log_place ∷ arg_option ∷ json_flag ∷ [])
 
 -- tells what a step rests on
 abbrev pub why_line : App
@@ -199,7 +205,7 @@ abbrev pub command_line : Names → App
 command_line names = with_commands program
     (check_line ∷ explain_line ∷ compile_line ∷ listing_line ∷ run_line names ∷ outcomes_line ∷ races_line
     ∷ on_run (codes "replay") ∷ on_run (codes "chart") ∷ events_line ∷ lanes_line ∷ page_line ∷ where_line
-    ∷ on_run (codes "span") ∷ why_line ∷ [])
+    ∷ span_line ∷ why_line ∷ [])
 
 -- none of the arguments is one of subcommands too
 abbrev pub AreLocal : List Arg → Type 0
@@ -411,13 +417,14 @@ lanes_by log given =
 
 -- `page` on a log, with what else was given to it
 abbrev pub page_on : Text → List Row → Task
-page_on log given = Page log (count_in (codes "FROM") given) (count_in (codes "TO") given)
+page_on log given = Page log (count_in (codes "FROM") given) (count_in (codes "TO") given) (is_flagged (codes "path") given)
 
--- a log was given, and an outcome or a limit; or neither a log nor an outcome
+-- a log was given, and an outcome or a limit; or no log, and no outcome or a critical path
 abbrev pub is_run_unclear : List Row → Bool
 is_run_unclear given =
     let outcome = is_some (first_of (codes "OUTCOME") given) in
-    if is_some (first_of (codes "LOG") given) then outcome || is_some (first_of (codes "LIMIT") given) else not outcome
+    if is_some (first_of (codes "LOG") given) then outcome || is_some (first_of (codes "LIMIT") given)
+    else not outcome || is_flagged (codes "path") given
 
 -- the command of this name is `page`, and it is unclear of which run
 abbrev pub is_page_unclear : Text → List Row → Bool
@@ -434,13 +441,13 @@ abbrev pub page_of : Option Text → List Row → Option Task
 page_of (Some log) given = Some (page_on log given)
 page_of None given = outcome_page_of given
 
--- A page is that of the run which a log has, or that of an outcome, and a limit is for outcomes.
+-- A page is that of the run which a log has, or that of an outcome; a limit is for outcomes, and a critical path for logs.
 abbrev pub page_by : List Row → Option Task
 page_by given = if is_run_unclear given then None else page_of (first_of (codes "LOG") given) given
 
 -- `where` on a log, with what else was given to it
 abbrev pub where_on : Text → List Row → Task
-where_on log given = Where log (count_in (codes "AT") given)
+where_on log given = told_as (is_json given) (Where log (count_in (codes "AT") given))
 
 -- `why` on a log, with the step that was given to it
 abbrev pub why_on : Text → List Row → Option Task
@@ -454,7 +461,7 @@ command_on name log given =
     else (if bytes_eq name (codes "events") then Some (told_as (is_json given) (Events log))
     else (if bytes_eq name (codes "lanes") then lanes_by log given
     else (if bytes_eq name (codes "where") then Some (where_on log given)
-    else (if bytes_eq name (codes "span") then Some (Span log)
+    else (if bytes_eq name (codes "span") then Some (told_as (is_json given) (Span log))
     else (if bytes_eq name (codes "why") then why_on log given else None))))))
 
 -- `races` with what was given to it

@@ -33,7 +33,7 @@ count_line = codes "x10clock: --count goes without --expect, --json, --log and -
 
 -- they have a page, and it is unclear of which run
 abbrev page_line : List ℕ
-page_line = codes "x10clock: page takes either LOG or --outcome, and --limit goes with --outcome\n"
+page_line = codes "x10clock: page takes either LOG or --outcome; --limit goes with --outcome, and --path with LOG\n"
 
 -- they have `--json` with a run that is told by no value
 abbrev json_line : List ℕ

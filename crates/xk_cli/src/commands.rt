@@ -4,7 +4,7 @@ ghost use Rattle.std.specs.Prelude.{◌≡◌, IfOk, codes, map};
 ghost use Rattle.clap.specs.Words.{App, app_of, rule_of, with_subcommand};
 ghost use Rattle.xk_cli.specs.CommandLine.{AreLocal, HasNoGlobals, WithOrders, check_line, command_line, compile_line};
 ghost use Rattle.xk_cli.specs.CommandLine.{events_line, explain_line, lanes_line, listing_line, on_file, on_run, outcomes_line};
-ghost use Rattle.xk_cli.specs.CommandLine.{page_line, program, races_line, run_line, where_line, why_line};
+ghost use Rattle.xk_cli.specs.CommandLine.{page_line, program, races_line, run_line, span_line, where_line, why_line};
 
 use crate::options::{
     arg_option, at_option, count_option, flag, from_option, json_flag, limit_option, log_choice,
@@ -269,6 +269,11 @@ fn page_line<'a>(alloc: Global) -> Result<clap::Command<'a>, AllocError>
         arg_option(alloc),
         from_option(alloc),
         to_option(alloc),
+        flag(
+            alloc,
+            "path",
+            "Shows the round of each step, and a critical path",
+        ),
     ];
     on_file(alloc, "page", about, Vec::from_array(alloc, options)?)
 }
@@ -284,17 +289,23 @@ fn where_line<'a>(alloc: Global) -> Result<clap::Command<'a>, AllocError>
         log_place(alloc),
         arg_option(alloc),
         at_option(alloc),
+        json_flag(alloc),
     ];
     on_file(alloc, "where", about, Vec::from_array(alloc, options)?)
 }
 
 /// The command `span`.
 fn span_line<'a>(alloc: Global) -> Result<clap::Command<'a>, AllocError>
-    ensures shape { IfOk result (λ c. app_of c ≡ on_run (codes "span")) }
+    ensures shape { IfOk result (λ c. app_of c ≡ span_line) }
     ensures local { IfOk result HasNoGlobals }
 {
     let about = "Prints how parallel the run that a log has is, and what takes longest.";
-    let options = [module_flag(alloc), log_place(alloc), arg_option(alloc)];
+    let options = [
+        module_flag(alloc),
+        log_place(alloc),
+        arg_option(alloc),
+        json_flag(alloc),
+    ];
     on_file(alloc, "span", about, Vec::from_array(alloc, options)?)
 }
 

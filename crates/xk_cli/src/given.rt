@@ -62,7 +62,7 @@ pub(crate) fn is_page_unclear(name: &str, given: &ArgMatches<'_>) -> bool
     name == "page" && is_run_unclear(given)
 }
 
-/// Whether a log was given, and an outcome or a limit; or neither a log nor an outcome.
+/// Whether a log was given, and an outcome or a limit; or no log, and no outcome or a critical path.
 pub(crate) fn is_run_unclear(given: &ArgMatches<'_>) -> bool
     ensures { result ≡ is_run_unclear (rows_of (found_of given.now)) }
 {
@@ -70,7 +70,7 @@ pub(crate) fn is_run_unclear(given: &ArgMatches<'_>) -> bool
     if given_in(given, "LOG").is_some() {
         return outcome || given_in(given, "LIMIT").is_some();
     }
-    !outcome
+    !outcome || is_flagged(given, "path")
 }
 
 /// Whether both an order and workers were given.

@@ -25,7 +25,7 @@ const COUNT_LINE: &str = "x10clock: --count goes without --expect, --json, --log
 
 /// The line of words that have a page of a log's run and of an outcome's, or of neither.
 const PAGE_LINE: &str =
-    "x10clock: page takes either LOG or --outcome, and --limit goes with --outcome\n";
+    "x10clock: page takes either LOG or --outcome; --limit goes with --outcome, and --path with LOG\n";
 
 /// The line of words that have `--json` with a run that is told by no value.
 const JSON_LINE: &str = "x10clock: --json goes without --order ask and --runs\n";
@@ -50,7 +50,7 @@ pub enum Misfit {
     PickAlone,
     /// `--count` stands beside `--expect`, `--json`, `--log` or `--pick`.
     MisplacedCount,
-    /// `page` stands beside both LOG and `--outcome`, or neither; or `--limit` beside LOG.
+    /// `page` stands beside both LOG and `--outcome`, or neither; or `--limit` beside LOG, or `--path` beside `--outcome`.
     UnclearPage,
     /// `--json` stands beside `--order ask` or `--runs`.
     MisplacedJson,

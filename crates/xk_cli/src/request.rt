@@ -7,8 +7,8 @@ ghost use Rattle.xk_cli.specs.CommandLine.{FitsKind, IsRefused, WithOrders, aske
 ghost use Rattle.xk_cli.specs.CommandLine.{command_by_log, faults_in, found_task, is_misfit, job_of, lanes_by};
 ghost use Rattle.xk_cli.specs.CommandLine.{listed_of, misfits_by, misfits_in};
 ghost use Rattle.xk_cli.specs.CommandLine.{outcome_page_of, outcomes_by, outcomes_of, page_by, races_in, run_by, run_in, task_by};
-ghost use Rattle.xk_cli.specs.CommandLine.{texts, told_as, why_on};
-ghost use Rattle.xk_jobs.specs.Tasks.{Events, Run, asked_value, task_value, way_value};
+ghost use Rattle.xk_cli.specs.CommandLine.{texts, told_as, where_on, why_on};
+ghost use Rattle.xk_jobs.specs.Tasks.{Events, Run, Span, asked_value, task_value, way_value};
 
 use crate::commands::line;
 use crate::given::{
@@ -244,11 +244,8 @@ fn command_by_log<'a>(name: &str, given: &ArgMatches<'a>) -> Option<Command<'a>>
         "chart" => Some(Command::Chart { log }),
         "events" => Some(events_on(is_json(given), log)),
         "lanes" => lanes_by(log, given),
-        "where" => Some(Command::Where {
-            log,
-            at: count_in(given, "AT"),
-        }),
-        "span" => Some(Command::Span { log }),
+        "where" => Some(where_on(log, given)),
+        "span" => Some(span_on(is_json(given), log)),
         "why" => why_on(log, given),
         _ => None,
     }
@@ -262,6 +259,27 @@ fn events_on<'a>(json: bool, log: &'a str) -> Command<'a>
         return Command::Json(Values::Events { log });
     }
     Command::Events { log }
+}
+
+/// The command `where` on this log, with what else was given to it, told as JSON or not.
+fn where_on<'a>(log: &'a str, given: &ArgMatches<'a>) -> Command<'a>
+    ensures { task_value result ≡ where_on log.entry.now (rows_of (found_of given.now)) }
+{
+    let at = count_in(given, "AT");
+    if is_json(given) {
+        return Command::Json(Values::Where { log, at });
+    }
+    Command::Where { log, at }
+}
+
+/// The command `span` on this log, told as JSON or not.
+fn span_on<'a>(json: bool, log: &'a str) -> Command<'a>
+    ensures { task_value result ≡ told_as json (Span log.entry.now) }
+{
+    if json {
+        return Command::Json(Values::Span { log });
+    }
+    Command::Span { log }
 }
 
 /// The command `lanes` on this log, with what else was given to it. None where `--rounds` has no place there.
@@ -303,6 +321,7 @@ fn page_by<'a>(given: &ArgMatches<'a>) -> Option<Command<'a>>
             log,
             from: count_in(given, "FROM"),
             to: count_in(given, "TO"),
+            path: is_flagged(given, "path"),
         }),
         None => outcome_page_of(given),
     }

@@ -14,6 +14,8 @@ explanation _ = None
 abbrev pub have_places : Values → Bool
 have_places (values.Events log) = true
 have_places (values.Races path) = true
+have_places (values.Where log at) = true
+have_places (values.Span log) = true
 have_places _ = false
 
 -- whether what is printed has the lines of a source text
@@ -23,7 +25,7 @@ shows_origins command.Listing = true
 shows_origins (command.Events log) = true
 shows_origins (command.Lanes log from to svg path) = true
 shows_origins (command.Rounds log) = true
-shows_origins (command.Page log from to) = true
+shows_origins (command.Page log from to path) = true
 shows_origins (command.OutcomePage pick limit from to) = true
 shows_origins (command.Where log at) = true
 shows_origins (command.Span log) = true

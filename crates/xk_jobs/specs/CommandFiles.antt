@@ -9,6 +9,8 @@ use Rattle.xk_jobs.specs.declared.job.Values.TheVariants as values
 abbrev pub values_read : Values → Option (List ℕ)
 values_read (values.Events log) = Some log.now
 values_read (values.Races log) = option_map (λ path. path.now) log
+values_read (values.Where log at) = Some log.now
+values_read (values.Span log) = Some log.now
 values_read (values.Expected list limit sets) = Some list.now
 values_read _ = None
 
@@ -25,7 +27,7 @@ read_path (command.Chart log) = Some log.now
 read_path (command.Events log) = Some log.now
 read_path (command.Lanes log from to svg path) = Some log.now
 read_path (command.Rounds log) = Some log.now
-read_path (command.Page log from to) = Some log.now
+read_path (command.Page log from to path) = Some log.now
 read_path (command.Where log at) = Some log.now
 read_path (command.Span log) = Some log.now
 read_path (command.Why log step) = Some log.now

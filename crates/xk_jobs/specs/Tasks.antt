@@ -26,11 +26,12 @@ way_value (drive.Workers w) = By w.count
 -- A command without where its texts lie in memory. What is explained may be a JSON value. A run has who takes its steps, and the log's
 -- path, where they were given; one by hand, whose order a person is asked for, has the log's path; a tally has the first seed, and how
 -- many runs there are. Lanes have the log's path, the first step and the last, where they were given, and may be a picture and have a
--- critical path; a page has the same steps. That of an outcome has its number, how many there are at most, and the same steps. How things stand is told by the
--- log's path, and after a step, where that was given; what a step rests on has both; races have the log's path, where it was given; the
--- others on a log have its path. Outcomes have how many there are at most, which is picked, and the path of its log; numbers of them
--- may have no order. Where they are counted they have how many there are at most, and whether numbers of them have no order. Where they are held against a list they have its path, how many there are at most, and whether numbers of them
--- have no order. Some of these may be told as JSON.
+-- critical path; a page has the same steps, and may have a path, too. That of an outcome has its number, how many there are at most, and
+-- the same steps. How things stand is told by the log's path, and after a step, where that was given; what a step rests on has both;
+-- races have the log's path, where it was given; the others on a log have its path. Outcomes have how many there are at most, which is
+-- picked, and the path of its log; numbers of them may have no order. Where they are counted they have how many there are at most, and
+-- whether numbers of them have no order. Where they are held against a list they have its path, how many there are at most, and whether
+-- numbers of them have no order. Some of these may be told as JSON.
 pub data Task : Type 0 where
   Check : Task
   Compile : Task
@@ -44,7 +45,7 @@ pub data Task : Type 0 where
   Events : List ℕ → Task
   Lanes : List ℕ → Option ℕ → Option ℕ → Bool → Bool → Task
   Rounds : List ℕ → Task
-  Page : List ℕ → Option ℕ → Option ℕ → Task
+  Page : List ℕ → Option ℕ → Option ℕ → Bool → Task
   OutcomePage : ℕ → Option ℕ → Option ℕ → Option ℕ → Task
   Where : List ℕ → Option ℕ → Task
   Span : List ℕ → Task
@@ -60,6 +61,8 @@ abbrev pub told_value : Values → Task
 told_value (values.Run given log) = Run (option_map way_value given) (option_map (λ s. s.now) log)
 told_value (values.Events log) = Events log.now
 told_value (values.Races log) = Races (option_map (λ s. s.now) log)
+told_value (values.Where log at) = Where log.now at
+told_value (values.Span log) = Span log.now
 told_value (values.Outcomes limit pick log sets) = Outcomes limit pick (option_map (λ s. s.now) log) sets
 told_value (values.Expected list limit sets) = Expected list.now limit sets
 
@@ -75,7 +78,7 @@ task_value (command.Chart log) = Chart log.now
 task_value (command.Events log) = Events log.now
 task_value (command.Lanes log from to svg path) = Lanes log.now from to svg path
 task_value (command.Rounds log) = Rounds log.now
-task_value (command.Page log from to) = Page log.now from to
+task_value (command.Page log from to path) = Page log.now from to path
 task_value (command.OutcomePage pick limit from to) = OutcomePage pick limit from to
 task_value (command.Where log at) = Where log.now at
 task_value (command.Span log) = Span log.now

@@ -72,6 +72,8 @@ pub enum Command<'a> {
         from: Option<u64>,
         /// `--to`, as for `lanes`.
         to: Option<u64>,
+        /// `--path`: with the round of each step, and a critical path.
+        path: bool,
     },
     /// `page --outcome`: make such a page of a run of FILE with one of its outcomes.
     OutcomePage {
@@ -155,6 +157,15 @@ pub enum Values<'a> {
     Races {
         log: Option<&'a str>,
     },
+    /// `where --json`: where in FILE each activity stands behind the steps that a log has, as one value.
+    Where {
+        log: &'a str,
+        at: Option<u64>,
+    },
+    /// `span --json`: how much of the run of FILE that a log has can go on side by side, and what takes longest, as one value.
+    Span {
+        log: &'a str,
+    },
     /// `outcomes --json`: all that FILE can print, as one value.
     Outcomes {
         limit: Option<u64>,
@@ -179,7 +190,7 @@ impl<'a> Values<'a> {
         ensures { option_map (λ path. path.now) result ≡ values_read self.now }
     {
         match *self {
-            Values::Events { log } => Some(log),
+            Values::Events { log } | Values::Where { log, .. } | Values::Span { log } => Some(log),
             Values::Races { log } => log,
             Values::Expected { list, .. } => Some(list),
             Values::Run { .. } | Values::Outcomes { .. } => None,
@@ -192,7 +203,11 @@ impl<'a> Values<'a> {
     {
         match *self {
             Values::Run { log, .. } | Values::Outcomes { log, .. } => log,
-            Values::Events { .. } | Values::Races { .. } | Values::Expected { .. } => None,
+            Values::Events { .. }
+            | Values::Races { .. }
+            | Values::Where { .. }
+            | Values::Span { .. }
+            | Values::Expected { .. } => None,
         }
     }
 
@@ -201,7 +216,10 @@ impl<'a> Values<'a> {
         ensures { result ≡ have_places self.now }
     {
         match *self {
-            Values::Events { .. } | Values::Races { .. } => true,
+            Values::Events { .. }
+            | Values::Races { .. }
+            | Values::Where { .. }
+            | Values::Span { .. } => true,
             Values::Run { .. } | Values::Outcomes { .. } | Values::Expected { .. } => false,
         }
     }

@@ -9,12 +9,15 @@ use Rattle.xk_types.specs.World.{opening}
 use Rattle.xk_types.specs.Schedule.{printed}
 use Rattle.xk_core.specs.Core.{CoreValue, opening_core}
 use Rattle.xk_readings.specs.declared.edge.Edge.{Edge}
-use Rattle.xk_readings.specs.Counts.{AreAsMany as AreReadAsMany, AreAtLeast as AreReadAtLeast, AreReadOnce}
+use Rattle.xk_readings.specs.Beginnings.{HasMoreSets}
+use Rattle.xk_readings.specs.Counts.{AreAsMany as AreReadAsMany, AreAtLeast as AreReadAtLeast, AreReadOnce, most_counted}
 use Rattle.xk_readings.specs.Graphs.{graph}
 use Rattle.xk_readings.specs.Readings.{Reads}
 use Rattle.xk_readings.specs.Sets.{AreDifferent, Has}
 use Rattle.xk_outcomes.specs.declared.listing.Outcome.{Outcome}
 use Rattle.xk_outcomes.specs.declared.order.Order.TheVariants as order
+use Rattle.xk_outcomes.specs.declared.search.Explored.{Explored}
+use Rattle.xk_outcomes.specs.Explored.{IsExplored}
 use Rattle.xk_outcomes.specs.Found.{FoundValue, first_found, through}
 use Rattle.xk_outcomes.specs.Links.{ends}
 use Rattle.xk_outcomes.specs.Listing.{AreAllIn, AreShownIn, ArePlayed}
@@ -25,7 +28,7 @@ use Rattle.xk_outcomes.proofs.FollowLemmas.{read_to}
 use Rattle.xk_outcomes.proofs.FoundLemmas.{first_is_found, found_through}
 use Rattle.xk_outcomes.proofs.ListingLemmas.{printed_shown}
 use Rattle.xk_outcomes.proofs.LoneOutcomeLemmas.{alone_distinct}
-use Rattle.xk_outcome_count.specs.Counts.{AreAllPrinted, AreAsMany, AreAtLeast, ArePrintedOnce}
+use Rattle.xk_outcome_count.specs.Counts.{AreAllPrinted, AreAsMany, AreAtLeast, ArePrintedOnce, IsCutOff}
 
 -- ---- what is listed
 
@@ -192,3 +195,12 @@ module _ (m : ModuleValue) (args : List ℤ) (all : List FoundValue) (links : Li
         (p.0, p.1, p.2, p.3);
     many = are.many;
   }
+
+-- ---- what ends a count
+
+-- the sets of worlds, or the most that is counted
+pub cut_by : (m : ModuleValue) (args : List ℤ) (limit read count : ℕ) (x : Explored)
+    → IsExplored order.Printed (opening_core m args) limit x
+    → HasMoreSets (graph x.links.items (ends x.found.all)) limit ⊎ (read ≡ most_counted) → read ≤ count → IsCutOff m args limit count
+cut_by m args limit read count x is (inl sets) most = record { explored = x; is = is; cut = inr (inl sets) }
+cut_by m args limit read count x is (inr all) most = record { explored = x; is = is; cut = inr (inr (subst (λ n. n ≤ count) all most)) }

@@ -1,8 +1,16 @@
 -- How many outcomes a module has: different lists of numbers that its runs print by which all have ended. This project's own.
-use Rattle.std.specs.Prelude.{◌≡◌, ℕ, ◌≤◌, ℤ, Bool, true, false, List, length, Some, slice_get}
+use Rattle.std.specs.Prelude.{◌≡◌, ℕ, ◌<◌, ◌≤◌, ◌⊎◌, ℤ, Bool, true, false, List, length, Some, slice_get}
 use Rattle.xk_types.specs.Code.{ModuleValue}
+use Rattle.xk_core.specs.Core.{opening_core}
+use Rattle.xk_readings.specs.Beginnings.{HasMoreSets}
+use Rattle.xk_readings.specs.Counts.{most_counted}
+use Rattle.xk_readings.specs.Graphs.{graph}
 use Rattle.xk_outcomes.specs.declared.all_outcomes.Limit.{Limit}
 use Rattle.xk_outcomes.specs.declared.listing.Outcome.{Outcome}
+use Rattle.xk_outcomes.specs.declared.order.Order.TheVariants as order
+use Rattle.xk_outcomes.specs.declared.search.Explored.{Explored}
+use Rattle.xk_outcomes.specs.Explored.{IsExplored}
+use Rattle.xk_outcomes.specs.Links.{ends}
 use Rattle.xk_outcomes.specs.Outcomes.{IsOutcome}
 use Rattle.xk_outcomes.specs.Limits.{GoesFar}
 use Rattle.xk_outcomes.specs.PlainRuns.{ArePlainListedAs}
@@ -48,3 +56,11 @@ pub record GoesAsFar (sets : Bool) (m : ModuleValue) (args : List ℤ) (limit : 
   pub plain : ArePlainListedAs sets m args list
   pub far : GoesFar m args sets limit list false
   pub many : length list ≤ count
+
+-- Lists are counted along the links of a search from where the runs begin, up to this limit. That doesn't tell how many there are: more
+-- worlds were kept than the limit says, or the sets of worlds on which one may stand behind some numbers are more, or the most is counted.
+pub record IsCutOff (m : ModuleValue) (args : List ℤ) (limit count : ℕ) : Type 0 where
+  pub explored : Explored
+  pub is : IsExplored order.Printed (opening_core m args) limit explored
+  pub cut : (limit < length explored.found.all)
+      ⊎ (HasMoreSets (graph explored.links.items (ends explored.found.all)) limit ⊎ (most_counted ≤ count))

@@ -3,14 +3,16 @@
 ghost use Rattle.std.specs.Prelude.{◌≡◌, ◌⊎◌, ◌≤◌, true, false, length, slice_get, IfOk, Some};
 ghost use Rattle.xk_types.specs.World.{AreArguments};
 ghost use Rattle.xk_core.specs.Core.{CoreValue};
+ghost use Rattle.xk_readings.specs.Beginnings.{HasMoreSets};
 ghost use Rattle.xk_readings.specs.Counts.{AreAsMany as AreReadAsMany, AreAtLeast as AreReadAtLeast};
+ghost use Rattle.xk_readings.specs.Counts.{most_counted};
 ghost use Rattle.xk_readings.specs.Graphs.{graph};
 ghost use Rattle.xk_outcomes.specs.Alikeness.{live_by};
 ghost use Rattle.xk_outcomes.specs.Found.{first_found};
 ghost use Rattle.xk_outcomes.specs.Links.{AreLinked, ends};
 ghost use Rattle.xk_outcomes.specs.Listing.{ArePlayed};
 ghost use Rattle.xk_outcomes.specs.LoneOutcomes.{IsOneOfManyAs};
-ghost use Rattle.xk_outcome_count.specs.Counts.{AreAsMany, AreAtLeast, GoesAsFar};
+ghost use Rattle.xk_outcome_count.specs.Counts.{AreAsMany, AreAtLeast, GoesAsFar, IsCutOff};
 
 use std::alloc::{AllocError, Global};
 use xk_bounds::Verified;
@@ -48,6 +50,9 @@ pub fn count_outcomes(
     // Where it isn't complete, neither would a list be: that is met which ends it, and it is no longer.
     ensures far { IfOk result (λ r. r.complete ≡ false
         → GoesAsFar sets verified.now arguments.now limit r.count) }
+    // And a count of lists isn't where only a list would be too long.
+    ensures cut { IfOk result (λ r. r.complete ≡ false → sets ≡ false
+        → IsCutOff verified.now arguments.now limit.entries r.count) }
 {
     if sets {
         return count_sets(alloc, verified, arguments, limit);
@@ -90,6 +95,8 @@ fn count_lists(
         → IsOneOfManyAs false verified.now arguments.now) }
     ensures far { IfOk result (λ r. r.complete ≡ false
         → GoesAsFar false verified.now arguments.now limit r.count) }
+    ensures cut { IfOk result (λ r. r.complete ≡ false
+        → IsCutOff verified.now arguments.now limit.entries r.count) }
 {
     match lone_outcome(alloc, Order::Printed, verified, arguments)? {
         Some(_lone) => Ok(Counted {
@@ -116,6 +123,8 @@ fn count_searched(
         (λ r. r.complete ≡ true → AreAsMany false verified.now arguments.now r.count) }
     ensures far { IfOk result (λ r. r.complete ≡ false
         → GoesAsFar false verified.now arguments.now limit r.count) }
+    ensures cut { IfOk result (λ r. r.complete ≡ false
+        → IsCutOff verified.now arguments.now limit.entries r.count) }
 {
     let explored = explored_in(alloc, Order::Printed, verified, arguments, limit.entries)?;
     let read = count_readings(alloc, &explored, limit.entries)?;
@@ -146,6 +155,9 @@ fn count_readings(
         (graph explored.now.links.items (ends explored.now.found.all)) r.count) }
     ensures exact { IfOk result (λ r. r.exact ≡ true → AreReadAsMany
         (graph explored.now.links.items (ends explored.now.found.all)) r.count) }
+    ensures limit { IfOk result (λ r. r.exact ≡ false → HasMoreSets
+        (graph explored.now.links.items (ends explored.now.found.all)) limit
+        ⊎ (r.count ≡ most_counted)) }
 {
     let all = &explored.found;
     let longest = all.longest();
@@ -158,6 +170,7 @@ fn count_of(found: &Outcomes, read: u128) -> Counted
     ensures whole { found.now.complete ≡ true → result.count ≡ length found.now.list.items }
     ensures either { (result.count ≡ length found.now.list.items) ⊎ (result.count ≡ read) }
     ensures least { length found.now.list.items ≤ result.count }
+    ensures read { found.now.complete ≡ false → read ≤ result.count }
 {
     let listed = found.list.len() as u128;
     let count = if found.complete {

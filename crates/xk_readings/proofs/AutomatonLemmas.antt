@@ -11,8 +11,9 @@ use Rattle.xk_readings.specs.Graphs.{GraphValue, HasEdge}
 use Rattle.xk_readings.specs.NodeSets.{HasNode}
 use Rattle.xk_readings.specs.Readings.{Reads}
 use Rattle.xk_readings.specs.Sets.{AreDifferent, Has}
+use Rattle.xk_readings.specs.Beginnings.{AreBehind, IsPrintedFrom}
 use Rattle.xk_readings.specs.Automata.{AreForked, AreMoves, AreNodes, AreStates, HasEndNode, HasMove, HasMoved}
-use Rattle.xk_readings.specs.Automata.{IsMoveOf, IsReadFrom, IsShut}
+use Rattle.xk_readings.specs.Automata.{IsMove, IsMoveOf, IsReadFrom, IsShut}
 use Rattle.xk_readings.specs.Automata.{KeepsStates, ReadsNoMore}
 use Rattle.xk_types.proofs.ListLemmas.{get-append_left, get_inside as there_is, get_once as same_at, get_push}
 use Rattle.xk_readings.proofs.SetLemmas.{has_append, has_left, has_place, has_right}
@@ -22,9 +23,10 @@ use Rattle.xk_readings.proofs.SetLemmas.{has_append, has_left, has_place, has_ri
 -- with a set of nodes of the graph more, which is shut
 pub states_more : (g : GraphValue) (old new : List (List ℕ)) (nodes : List ℕ) → AreStates g old → KeepsStates old new
     → ((i : ℕ) (s : List ℕ) → slice_get new i ≡ Some s → (slice_get old i ≡ Some s) ⊎ (s ≡ nodes))
-    → AreNodes g nodes → IsShut g nodes → AreStates g new
-states_more g old new nodes are keeps each is shut = record {
+    → AreNodes g nodes → IsShut g nodes → (numbers : List ℤ) × AreBehind g numbers nodes → AreStates g new
+states_more g old new nodes are keeps each is shut behind = record {
   nodes = λ i s there. by i s (each i s there);
+  behind = λ i s there. numbers_by i s (each i s there);
   first = (are.first.0, keeps 0 are.first.0 are.first.1, are.first.2, are.first.3);
 }
   where
@@ -32,12 +34,17 @@ states_more g old new nodes are keeps each is shut = record {
     by i s (inl was) = are.nodes i s was
     by i s (inr same) = subst (λ (l : List ℕ). AreNodes g l × IsShut g l) (sym same) (is, shut)
 
+    numbers_by : (i : ℕ) (s : List ℕ) → (slice_get old i ≡ Some s) ⊎ (s ≡ nodes) → (numbers : List ℤ) × AreBehind g numbers s
+    numbers_by i s (inl was) = are.behind i s was
+    numbers_by i s (inr same) = subst (λ (l : List ℕ). (numbers : List ℤ) × AreBehind g numbers l) (sym same) behind
+
 -- the first set alone
 pub first_state : (g : GraphValue) (old new : List (List ℕ)) (nodes : List ℕ) (k : ℕ) → old ≡ [] → slice_get new k ≡ Some nodes
     → ((i : ℕ) (s : List ℕ) → slice_get new i ≡ Some s → (slice_get old i ≡ Some s) ⊎ (s ≡ nodes))
-    → AreNodes g nodes → IsShut g nodes → ReadsNoMore g nodes (0 ∷ []) → HasNode nodes 0 → AreStates g new
-first_state g old new nodes k none there each are shut reads has = record {
+    → AreNodes g nodes → IsShut g nodes → ReadsNoMore g nodes (0 ∷ []) → HasNode nodes 0 → AreBehind g [] nodes → AreStates g new
+first_state g old new nodes k none there each are shut reads has behind = record {
   nodes = λ i s at. subst (λ (l : List ℕ). AreNodes g l × IsShut g l) (sym (same i s at)) (are, shut);
+  behind = λ i s at. ([], subst (AreBehind g []) (sym (same i s at)) behind);
   first =
       let inside = slice_get_within new k nodes there in
       let first = there_is new 0 (omega (arith, inside)) in (
@@ -273,3 +280,10 @@ end_more g states old new n nodes b one there tells many before = (
           ap (λ (l : List Bool). slice_get l i) one ∙ subst (λ k. slice_get (old ++ b ∷ []) k ≡ Some b) last (get_push old b),
           subst (λ (l : List ℕ). Decides b (HasEndNode g l)) is tells,
         )
+
+-- where the number leads from a set that was met, all nodes behind some numbers are
+pub behind_more : (g : GraphValue) (states : List (List ℕ)) (from : ℕ) (nodes to : List ℕ) (x : ℤ) → AreStates g states
+    → slice_get states from ≡ Some nodes → IsMove g nodes x to → IsPrintedFrom g nodes x → (numbers : List ℤ) × AreBehind g numbers to
+behind_more g states from nodes to x are there move printed =
+    let before = are.behind from nodes there in
+    (before.0 ++ x ∷ [], move.behind printed before.0 before.1)

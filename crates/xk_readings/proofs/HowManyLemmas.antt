@@ -1,7 +1,8 @@
 -- What stands along paths between sets of nodes is what can be read.
-use Rattle.std.proofs.Common.{◌≡◌, ◌∙◌, ℕ, ℤ, zero, suc, ◌+◌, ◌<◌, ◌≤◌, inl, inr, Bool, true, false, List, [], ◌∷◌, ◌++◌}
+use Rattle.std.proofs.Common.{◌≡◌, ◌∙◌, ℕ, ℤ, zero, suc, ◌+◌, ◌<◌, ◌≤◌, ◌⊎◌, inl, inr, Bool, true, false, List, [], ◌∷◌, ◌++◌}
 use Rattle.std.proofs.Common.{length, get_or, Option, Some, None, refl, sym, ap, subst, append_assoc, arith, slice_get}
 use Rattle.std.specs.Option.{option_to_list}
+use Rattle.std.proofs.lemmas.Bool.{cases_lt}
 use Rattle.std.proofs.lemmas.List.{append-nil}
 use Rattle.std.proofs.lemmas.Option.{get_or_from_slice_get, same_Some, slice_get_within}
 use Rattle.xk_readings.specs.declared.edge.Edge.{Edge}
@@ -37,7 +38,7 @@ module _ (g : GraphValue) (states : List (List ℕ)) (moves : List Edge) (place 
   abbrev s0 : List ℕ
   s0 = are.first.0
 
-  pub loud : AreLoud moves
+  loud : AreLoud moves
   loud e h = (let is = moved.each e h in (is.number, is.prints))
 
   pub between : AreBetween moves (length ends)
@@ -47,9 +48,6 @@ module _ (g : GraphValue) (states : List (List ℕ)) (moves : List Edge) (place 
       let to = slice_get_within states e.to is.target is.into in
       let many = over.many in
       (omega (arith, from, many), omega (arith, to, many))
-
-  pub some : 0 < length ends
-  some = (let inside = slice_get_within states 0 s0 are.first.1 in let many = over.many in omega (arith, inside, many))
 
   -- what goes on where a path ends is read from the first set behind the numbers of the path
   abbrev IsPathOf : Path → Type 0
@@ -87,7 +85,7 @@ module _ (g : GraphValue) (states : List (List ℕ)) (moves : List Edge) (place 
       o.2.0 (sym (get_or_from_slice_get ends i o.0 false o.1) ∙ is)
 
   -- what stands along paths is read
-  pub read_along : (n : ℕ) (numbers : List ℤ) → Has (lists_below moves ends n) numbers → (k : ℕ) × (acts : List ℕ) × Reads g k 0 acts numbers
+  read_along : (n : ℕ) (numbers : List ℤ) → Has (lists_below moves ends n) numbers → (k : ℕ) × (acts : List ℕ) × Reads g k 0 acts numbers
   read_along n numbers h =
       let b = below_of moves ends n numbers h in
       let p = over_path ends (paths_of moves b.0) numbers b.2 in
@@ -104,7 +102,7 @@ module _ (g : GraphValue) (states : List (List ℕ)) (moves : List Edge) (place 
           never : (k : ℕ) → None ≡ Some k → ⊥
           never k h = cc
 
-  pub read_once : (n : ℕ) → AreReadOnce g (lists_below moves ends n)
+  read_once : (n : ℕ) → AreReadOnce g (lists_below moves ends n)
   read_once n = record {
     read = λ numbers h. read_along n numbers h;
     once = different_lists moves ends n loud moved.forked;
@@ -129,7 +127,7 @@ module _ (g : GraphValue) (states : List (List ℕ)) (moves : List Edge) (place 
       (subst (Has (over_of ends (paths_of moves (length numbers + suc n))))
       (ap (λ (o : Option ℤ). (p.numbers ++ option_to_list o) ++ numbers) m.4 ∙ append_assoc p.numbers (x ∷ []) numbers) rest)
 
-  pub all_along : length states ≤ place → (longest : ℕ) → IsLongest g longest → (n : ℕ) (acts : List ℕ) (numbers : List ℤ)
+  all_along : length states ≤ place → (longest : ℕ) → IsLongest g longest → (n : ℕ) (acts : List ℕ) (numbers : List ℤ)
       → Reads g n 0 acts numbers
       → Has (lists_below moves ends (longest + 1)) numbers
   all_along whole longest most n acts numbers r =
@@ -153,3 +151,11 @@ module _ (g : GraphValue) (states : List (List ℕ)) (moves : List Edge) (place 
     all = all_along whole longest most;
     many = omega (arith, is, less);
   }
+
+-- what isn't less than the most that is counted is that
+pub most_is : (n count : ℕ) → count ≡ counted n → (count < most_counted → ⊥) → count ≡ most_counted
+most_is n count is least = by (cases_lt count most_counted)
+  where
+    by : (count < most_counted) ⊎ (most_counted ≤ count) → count ≡ most_counted
+    by (inl less) = absurd (least less)
+    by (inr most) = omega (arith, is, most)

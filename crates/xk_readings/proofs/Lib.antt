@@ -12,6 +12,7 @@ mod StateLemmas
 mod AutomatonLemmas
 mod PathLemmas
 mod HowManyLemmas
+mod BeginningLemmas
 mod GrowthLemmas
 mod BranchLemmas
 mod WalkLemmas

@@ -15,7 +15,9 @@ use Rattle.xk_readings.specs.Graphs.{GraphValue, HasEdge, IsWithin}
 use Rattle.xk_readings.specs.NodeSets.{AreSameNodes, HasNode, KeepsNodes}
 use Rattle.xk_readings.specs.Readings.{Reads}
 use Rattle.xk_readings.specs.Sets.{Has}
+use Rattle.xk_readings.specs.Beginnings.{AreBehind, IsPrintedFrom}
 use Rattle.xk_readings.specs.Automata.{AreNodes, HasTargets, IsMove, IsReadFrom, IsShut, IsTarget, ReadsNoMore}
+use Rattle.xk_readings.proofs.SetLemmas.{has_append}
 use Rattle.xk_types.proofs.ListLemmas.{get-append_left as stays, get_inside as there_is, get_once as same_at}
 use Rattle.xk_readings.proofs.ListLemmas.{permuted, place, read}
 
@@ -107,14 +109,17 @@ module _ (g : GraphValue) (nodes start : List ℕ) (x : ℤ) (numbers : List ℤ
 module _ (g : GraphValue) (nodes start shut list : List ℕ) (x : ℤ) where
   pub is_move : IsShut g nodes → ((k : ℕ) → HasNode nodes k → HasTargets g k (Some x) start)
       → ((k : ℕ) → HasNode start k → (from : ℕ) × HasNode nodes from × IsTarget g from (Some x) k)
-      → KeepsNodes start shut → AreNodes g shut → IsShut g shut → ReadsNoMore g shut start → AreSameNodes shut list → IsMove g nodes x list
-  is_move closed there each keeps are is_shut reads same = record {
+      → KeepsNodes start shut → AreNodes g shut → IsShut g shut → ReadsNoMore g shut start → AreSameNodes shut list
+      → (IsPrintedFrom g nodes x → (numbers : List ℤ) → AreBehind g numbers nodes → AreBehind g (numbers ++ x ∷ []) list)
+      → IsMove g nodes x list
+  is_move closed there each keeps are is_shut reads same behind = record {
     nodes = λ k h. are k (same.back k h);
     shut = λ e has prints h. same.there e.to (is_shut e has prints (same.back e.from h));
     forth = λ numbers r. forth numbers (reads numbers (r.0, same.back r.0 r.1, r.2, r.3, r.4));
     back = λ numbers r.
         let on = read_on g nodes start x numbers closed there r.2 r.0 r.3 (x ∷ numbers) r.1 r.4 refl in
         (on.0, same.there on.0 (kept_has start shut on.0 keeps on.1), on.2, on.3, on.4);
+    behind = behind;
   }
     where
       forth : (numbers : List ℤ) → IsReadFrom g start numbers → IsReadFrom g nodes (x ∷ numbers)
@@ -261,3 +266,33 @@ zero_read g none one empty grows numbers (k, h, n, acts, r) = by (each_grown non
     by : HasNode none k ⊎ (0 ≡ k) → IsReadFrom g (0 ∷ []) numbers
     by (inl was) = absurd (none-some k (ap (λ (l : List ℕ). slice_get l was.0) (sym empty) ∙ was.1))
     by (inr is) = (0, (0, refl), n, acts, subst (λ m. Reads g n m acts numbers) (sym is) r)
+
+-- a number more, or none
+pub push_only : (old new : List ℤ) (n x z : ℤ) → new ≡ old ++ n ∷ [] → n ≡ x → Has new z → Has old z ⊎ (z ≡ x)
+push_only old new n x z one same h = by (has_append old (n ∷ []) z (subst (λ (l : List ℤ). Has l z) one h))
+  where
+    by : Has old z ⊎ Has (n ∷ []) z → Has old z ⊎ (z ≡ x)
+    by (inl was) = inl was
+    by (inr (inl is)) = inr (is ∙ same)
+    by (inr (inr none)) = absurd none
+
+-- an edge more
+pub printed_more : (g : GraphValue) (node : ℕ) (first old new : List ℤ) (e : Edge) → HasEdge g e → e.from ≡ node
+    → ((x : ℤ) → Has old x → Has first x ⊎ IsPrintedFrom g (node ∷ []) x) → ((x : ℤ) → Has new x → Has old x ⊎ (e.printed ≡ Some x))
+    → (x : ℤ) → Has new x → Has first x ⊎ IsPrintedFrom g (node ∷ []) x
+printed_more g node first old new e has begins before each x h = by (each x h)
+  where
+    by : Has old x ⊎ (e.printed ≡ Some x) → Has first x ⊎ IsPrintedFrom g (node ∷ []) x
+    by (inl was) = before x was
+    by (inr prints) = inr (e, has, (0, ap Some (sym begins)), prints)
+
+-- a node more
+pub printed_from_more : (g : GraphValue) (nodes : List ℕ) (at node : ℕ) (old new : List ℤ) → slice_get nodes at ≡ Some node
+    → ((x : ℤ) → Has old x → IsPrintedFrom g nodes x) → ((x : ℤ) → Has new x → Has old x ⊎ IsPrintedFrom g (node ∷ []) x)
+    → (x : ℤ) → Has new x → IsPrintedFrom g nodes x
+printed_from_more g nodes at node old new there before each x h = by (each x h)
+  where
+    by : Has old x ⊎ IsPrintedFrom g (node ∷ []) x → IsPrintedFrom g nodes x
+    by (inl was) = before x was
+    by (inr (e, has, (zero, is), prints)) = (e, has, (at, there ∙ is), prints)
+    by (inr (e, has, (suc i, is), prints)) = absurd (none-some e.from is)

@@ -67,9 +67,6 @@ has_all (f ∷ moves) ps e p (inr later) there same =
 
 -- ---- those that are over
 
-abbrev pub numbers_of_path : Path → List ℤ
-numbers_of_path p = p.numbers
-
 pub over_path : (ends : List Bool) (ps : List Path) (numbers : List ℤ) → Has (over_of ends ps) numbers
     → (p : Path) × Has ps p × (is_over ends p ≡ true) × (p.numbers ≡ numbers)
 over_path ends [] numbers h = absurd h
@@ -164,7 +161,7 @@ never_empty : (xs : List ℤ) (x : ℤ) → [] ≡ xs ++ x ∷ [] → ⊥
 never_empty xs x h = (let count = ap length h in let more = length_push xs x in omega (arith, count, more))
 
 -- lists with a number behind them are the same where these are
-push_same : (xs ys : List ℤ) (x y : ℤ) → xs ++ x ∷ [] ≡ ys ++ y ∷ [] → (xs ≡ ys) × (x ≡ y)
+pub push_same : (xs ys : List ℤ) (x y : ℤ) → xs ++ x ∷ [] ≡ ys ++ y ∷ [] → (xs ≡ ys) × (x ≡ y)
 push_same [] [] x y same = (refl, head_same x y [] [] same)
 push_same [] (z ∷ ys) x y same = absurd (never_empty ys y (tail_same x z [] (ys ++ y ∷ []) same))
 push_same (z ∷ xs) [] x y same = absurd (never_empty xs x (sym (tail_same z y (xs ++ x ∷ []) [] same)))

@@ -153,7 +153,7 @@ module _ (branches : List Branch) (d : Branch) (sorted : IsSortedByKey (λ (b : 
       (most_chain (get_or branches i d).number (get_or branches (i + n) d).number (get_or branches (i + n + 1) d).number most next)
 
   -- those that are sorted rise
-  pub rising_sorted : AreRisingBranches branches
+  rising_sorted : AreRisingBranches branches
   rising_sorted i j b c less at_i at_j =
       let inside = slice_get_within branches j c at_j in
       let same : i + (j - i) ≡ j = omega (arith, less) in

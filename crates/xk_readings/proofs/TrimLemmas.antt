@@ -1,5 +1,6 @@
 -- The edges that lead to where a reading goes out have the same readings as all edges.
-use Rattle.std.proofs.Common.{◌≡◌, ◌∙◌, ℕ, ℤ, zero, suc, ◌<◌, Bool, List, length, sym, ap, subst, slice_get}
+use Rattle.std.proofs.Common.{◌≡◌, ◌∙◌, ℕ, ℤ, zero, suc, ◌∷◌, ◌++◌, ◌<◌, Bool, List, length, refl, sym, ap, subst, slice_get}
+use Rattle.std.specs.Option.{option_to_list}
 use Rattle.xk_readings.specs.declared.edge.Edge.{Edge}
 use Rattle.xk_readings.specs.declared.listing.Reading.{Reading}
 use Rattle.xk_readings.specs.Graphs.{GraphValue, HasEdge, HasSameEdges, IsWithin, graph}
@@ -8,6 +9,7 @@ use Rattle.xk_readings.specs.Counts.{AreAsMany, AreAtLeast, AreReadOnce}
 use Rattle.xk_readings.specs.Rising.{AreFirst}
 use Rattle.xk_readings.specs.Useful.{AreKept, AreUseful, IsReadable}
 use Rattle.xk_readings.specs.Closures.{AreTrim}
+use Rattle.xk_readings.specs.Beginnings.{HasMoreSets, IsBehind, LeadAlike, ReadsTo}
 
 -- a graph with those edges alone
 pub record IsTrimmed (g h : GraphValue) : Type 0 where
@@ -37,6 +39,20 @@ reads_trimmed : (g h : GraphValue) → IsTrimmed g h → (n k : ℕ) (acts : Lis
 reads_trimmed g h is zero k acts numbers r = (ap (λ (l : List Bool). slice_get l k) is.ends ∙ r.0, r.1, r.2)
 reads_trimmed g h is (suc n) k acts numbers r =
     (r.0, is.all r.0 r.1 (n, r.3, r.4, r.5), r.2, r.3, r.4, reads_trimmed g h is n r.0.to r.3 r.4 r.5, r.6, r.7)
+
+read_to_whole : (g h : GraphValue) → IsTrimmed g h → (n k : ℕ) (numbers : List ℤ) → ReadsTo h n numbers k → ReadsTo g n numbers k
+read_to_whole g h is zero k numbers r = r
+read_to_whole g h is (suc n) k numbers r = (r.0, (is.each r.0 r.1).0, r.2, r.3, read_to_whole g h is n r.0.from r.3 r.4, r.5)
+
+read_to_trimmed : (g h : GraphValue) → IsTrimmed g h → (n k : ℕ) (numbers : List ℤ) → ReadsTo g n numbers k → IsReadable g k
+    → ReadsTo h n numbers k
+read_to_trimmed g h is zero k numbers r on = r
+read_to_trimmed g h is (suc n) k numbers r on =
+    let e = r.0 in
+    let to = subst (IsReadable g) (sym r.2) on in
+    let from : IsReadable g e.from =
+    (suc to.0, e.act ∷ to.1, option_to_list e.printed ++ to.2, (e, r.1, refl, to.1, to.2, to.3, refl, refl)) in
+    (e, is.all e r.1 to, r.2, r.3, read_to_trimmed g h is n e.from r.3 r.4 from, r.5)
 
 module _ (g h : GraphValue) (is : IsTrimmed g h) where
   pub readable_trimmed : (k : ℕ) → IsReadable g k → IsReadable h k
@@ -76,4 +92,24 @@ module _ (g h : GraphValue) (is : IsTrimmed g h) where
     read = once_whole are.lists are.read;
     all = λ n acts numbers r. are.all n acts numbers (reads_trimmed g h is n 0 acts numbers r);
     many = are.many;
+  }
+
+  readable_whole : (k : ℕ) → IsReadable h k → IsReadable g k
+  readable_whole k r = (r.0, r.1, r.2, reads_whole g h is r.0 k r.1 r.2 r.3)
+
+  behind_whole : (numbers : List ℤ) (k : ℕ) → IsBehind h numbers k → IsBehind g numbers k
+  behind_whole numbers k b = ((b.0.0, read_to_whole g h is b.0.0 k numbers b.0.1), readable_whole k b.1)
+
+  behind_trimmed : (numbers : List ℤ) (k : ℕ) → IsBehind g numbers k → IsBehind h numbers k
+  behind_trimmed numbers k b = ((b.0.0, read_to_trimmed g h is b.0.0 k numbers b.0.1 b.1), readable_trimmed k b.1)
+
+  pub sets_whole : (limit : ℕ) → HasMoreSets h limit → HasMoreSets g limit
+  sets_whole limit are = record {
+    beginnings = are.beginnings;
+    some = λ i xs there. (let s = are.some i xs there in (s.0, behind_whole xs s.0 s.1));
+    apart = λ i j xs ys hi hj alike. are.apart i j xs ys hi hj (λ k. (
+      λ b. behind_trimmed ys k ((alike k).0 (behind_whole xs k b)),
+      λ b. behind_trimmed xs k ((alike k).1 (behind_whole ys k b)),
+    ));
+    more = are.more;
   }

@@ -4,6 +4,7 @@ use Rattle.std.specs.Prelude.{◌≡◌, ℕ, ◌<◌, ℤ, Bool, List, [], ◌�
 use Rattle.std.specs.Bool.{Decides}
 use Rattle.std.specs.Global.{Vec}
 use Rattle.xk_readings.specs.declared.edge.Edge.{Edge}
+use Rattle.xk_readings.specs.Beginnings.{AreBehind, IsPrintedFrom}
 use Rattle.xk_readings.specs.Graphs.{GraphValue, HasEdge}
 use Rattle.xk_readings.specs.NodeSets.{HasNode}
 use Rattle.xk_readings.specs.Readings.{Reads}
@@ -39,6 +40,7 @@ pub record IsMove (g : GraphValue) (from : List ℕ) (x : ℤ) (to : List ℕ) :
   pub shut : IsShut g to
   pub forth : (numbers : List ℤ) → IsReadFrom g to numbers → IsReadFrom g from (x ∷ numbers)
   pub back : (numbers : List ℤ) → IsReadFrom g from (x ∷ numbers) → IsReadFrom g to numbers
+  pub behind : IsPrintedFrom g from x → (numbers : List ℤ) → AreBehind g numbers from → AreBehind g (numbers ++ x ∷ []) to
 
 -- a node may end a reading
 abbrev pub HasEndNode : GraphValue → List ℕ → Type 0
@@ -64,9 +66,10 @@ abbrev pub AreForked : List Edge → Type 0
 AreForked [] = Unit {0}
 AreForked (e ∷ moves) = ((f : Edge) → Has moves f → f.from ≡ e.from → f.printed ≡ e.printed → ⊥) × AreForked moves
 
--- each set is of nodes of the graph, and shut; and the first one has the first node
+-- each set is of nodes of the graph, shut, and all behind some numbers; and the first one has the first node
 pub record AreStates (g : GraphValue) (states : List (List ℕ)) : Type 0 where
   pub nodes : (i : ℕ) (s : List ℕ) → slice_get states i ≡ Some s → AreNodes g s × IsShut g s
+  pub behind : (i : ℕ) (s : List ℕ) → slice_get states i ≡ Some s → (numbers : List ℤ) × AreBehind g numbers s
   pub first : (s : List ℕ) × (slice_get states 0 ≡ Some s) × ReadsNoMore g s (0 ∷ []) × HasNode s 0
 
 -- these are moves between sets, and those from the sets before this place are all there

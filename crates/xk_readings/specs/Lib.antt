@@ -10,5 +10,6 @@ pub mod Branches
 pub mod Walks
 pub mod Sets
 pub mod Counts
+pub mod Beginnings
 pub mod Automata
 pub mod Paths

@@ -2,6 +2,7 @@
 
 ghost use Rattle.std.specs.Prelude.{◌≡◌, ◌<◌, ◌≤◌, ◌+◌, ℕ, true, false, length, slice_get, IfOk, OnOk, Some};
 ghost use Rattle.xk_readings.specs.Automata.{AreEnds, AreMoves, AreStates, HasMoved, KeepsStates};
+ghost use Rattle.xk_readings.specs.Beginnings.{AreOnce, IsPrintedFrom};
 ghost use Rattle.xk_readings.specs.Graphs.{IsWithin};
 
 use crate::edge::Edge;
@@ -33,6 +34,7 @@ fn add_move(
     requires within { IsWithin graph.now }
     requires room { set.old.room ≡ length graph.now.ends }
     requires there { slice_get automaton.old.states from ≡ Some nodes.now }
+    requires printed { IsPrintedFrom graph.now nodes.now number }
     requires states { AreStates graph.now automaton.old.states }
     ensures room { set.new.room ≡ set.old.room }
     ensures kept { KeepsStates automaton.old.states automaton.new.states }
@@ -97,6 +99,7 @@ fn grow(
         × (complete ≡ true → length automaton.new.states ≤ place)) }
     ensures limit { IfOk result
         (λ complete. complete ≡ false → limit < length automaton.new.states) }
+    ensures once { IfOk result (λ complete. AreOnce automaton.new.states) }
 {
     let mut at = 0;
     while at < automaton.states.len() {
@@ -156,6 +159,7 @@ pub fn automaton_of(
         × AreMoves graph.now r.0.states r.0.moves.items place
         × (r.1 ≡ true → length r.0.states ≤ place)) }
     ensures limit { IfOk result (λ r. r.1 ≡ false → limit < length r.0.states) }
+    ensures once { IfOk result (λ r. AreOnce r.0.states) }
 {
     let mut set = NodeSet::new(alloc, nodes)?;
     let mut automaton = beginning(alloc, graph, &mut set)?;

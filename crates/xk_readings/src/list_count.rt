@@ -1,15 +1,18 @@
 //! How many lists of numbers can be read from the first node of a graph.
 
-ghost use Rattle.std.specs.Prelude.{◌≡◌, ◌<◌, ◌≤◌, ◌⊎◌, true, false, length, IfOk};
+ghost use Rattle.std.specs.Prelude.{◌≡◌, ◌<◌, ◌⊎◌, true, false, length, IfOk};
+ghost use Rattle.xk_readings.specs.Beginnings.{HasMoreSets};
+ghost use Rattle.xk_readings.specs.Closures.{AreTrim};
 ghost use Rattle.xk_readings.specs.Counts.{AreAsMany, AreAtLeast, most_counted};
 ghost use Rattle.xk_readings.specs.Graphs.{IsWithin, graph};
 ghost use Rattle.xk_readings.specs.Readings.{IsLongest};
+ghost use Rattle.xk_readings.specs.Useful.{IsReadable};
 
 use crate::automaton::{automaton_of, ends_of};
 use crate::counts::{MOST, count_along};
 use crate::edge::Edge;
 use crate::graph::Graph;
-use crate::useful::{useful_edges, useful_nodes};
+use crate::useful::{is_first_useful, useful_edges, useful_nodes};
 use std::alloc::{AllocError, Global};
 
 /// How many lists of numbers can be read.
@@ -19,8 +22,6 @@ pub struct HowMany {
     pub count: u128,
     /// Whether there are no more.
     pub exact: bool,
-    /// How many sets of nodes were met on which one may stand at once.
-    pub states: usize,
 }
 
 /// Counts what can be read along edges that each lead to where a reading goes out. Err where memory was refused.
@@ -35,10 +36,12 @@ fn count_in(
     requires some { 0 < nodes }
     requires nodes { nodes ≡ length graph.now.ends }
     requires longest { IsLongest graph.now longest }
+    requires trim { AreTrim graph.now }
+    requires readable { IsReadable graph.now 0 }
     ensures least { IfOk result (λ r. AreAtLeast graph.now r.count) }
     ensures exact { IfOk result (λ r. r.exact ≡ true → AreAsMany graph.now r.count) }
-    ensures limit { IfOk result
-        (λ r. r.exact ≡ false → (limit < r.states) ⊎ (r.count ≡ most_counted)) }
+    ensures limit { IfOk result (λ r. r.exact ≡ false
+        → HasMoreSets graph.now limit ⊎ (r.count ≡ most_counted)) }
 {
     let (automaton, complete) = automaton_of(alloc, graph, nodes, limit)?;
     let ends = ends_of(alloc, graph, &automaton.states)?;
@@ -46,7 +49,6 @@ fn count_in(
     Ok(HowMany {
         count,
         exact: complete && count < MOST,
-        states: ends.len(),
     })
 }
 
@@ -66,10 +68,17 @@ pub fn how_many(
     ensures least { IfOk result (λ r. AreAtLeast (graph edges.now ends.now) r.count) }
     ensures exact { IfOk result
         (λ r. r.exact ≡ true → AreAsMany (graph edges.now ends.now) r.count) }
-    ensures limit { IfOk result
-        (λ r. r.exact ≡ false → (limit < r.states) ⊎ (r.count ≡ most_counted)) }
+    // Else there are more sets of nodes than the limit says, on each of which one may stand at once; or more lists than are counted.
+    ensures limit { IfOk result (λ r. r.exact ≡ false
+        → HasMoreSets (graph edges.now ends.now) limit ⊎ (r.count ≡ most_counted)) }
 {
     let useful = useful_nodes(alloc, edges, ends)?;
+    if !is_first_useful(&useful) {
+        return Ok(HowMany {
+            count: 0,
+            exact: true,
+        });
+    }
     let kept = useful_edges(alloc, edges, &useful)?;
     let graph = Graph::new(alloc, kept, ends)?;
     count_in(alloc, &graph, ends.len(), longest, limit)

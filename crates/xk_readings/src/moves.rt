@@ -1,8 +1,9 @@
 //! Where one comes from some nodes by a number.
 
-ghost use Rattle.std.specs.Prelude.{◌≡◌, ◌<◌, ◌∷◌, ◌⊎◌, [], ℕ, ℤ, length, IfOk, OnOk, Some};
+ghost use Rattle.std.specs.Prelude.{◌≡◌, ◌<◌, ◌∷◌, ◌⊎◌, [], ℕ, ℤ, List, length, IfOk, OnOk, Some};
 ghost use Rattle.std.specs.Bool.{Decides};
 ghost use Rattle.xk_readings.specs.Automata.{AreNodes, HasEndNode, HasTargets, IsMove, IsShut, IsTarget, ReadsNoMore};
+ghost use Rattle.xk_readings.specs.Beginnings.{AreBehind, AreReadTo, IsPrintedFrom};
 ghost use Rattle.xk_readings.specs.Graphs.{HasEdge, IsWithin};
 ghost use Rattle.xk_readings.specs.NodeSets.{HasNode, KeepsNodes};
 ghost use Rattle.xk_readings.specs.Sets.{AreDifferent, Has, KeepsAll};
@@ -17,6 +18,7 @@ fn add_number(numbers: &mut Vec<i64>, number: i64) -> Result<(), AllocError>
     ensures different { AreDifferent numbers.old.items → AreDifferent numbers.new.items }
     ensures kept { KeepsAll numbers.old.items numbers.new.items }
     ensures there { OnOk result (Has numbers.new.items number) }
+    ensures only { (x : ℤ) → Has numbers.new.items x → Has numbers.old.items x ⊎ (x ≡ number) }
 {
     if !numbers.contains(&number) {
         numbers.push(number)?;
@@ -30,6 +32,8 @@ fn add_printed(numbers: &mut Vec<i64>, edge: &Edge) -> Result<(), AllocError>
     ensures kept { KeepsAll numbers.old.items numbers.new.items }
     ensures there { OnOk result
         ((x : ℤ) → edge.now.printed ≡ Some x → Has numbers.new.items x) }
+    ensures only { (x : ℤ) → Has numbers.new.items x
+        → Has numbers.old.items x ⊎ (edge.now.printed ≡ Some x) }
 {
     if let Some(number) = edge.printed {
         add_number(numbers, number)?;
@@ -43,6 +47,8 @@ fn add_numbers(graph: &Graph, node: usize, numbers: &mut Vec<i64>) -> Result<(),
     ensures kept { KeepsAll numbers.old.items numbers.new.items }
     ensures there { OnOk result ((e : Edge) (x : ℤ) → HasEdge graph.now e → e.from ≡ node
         → e.printed ≡ Some x → Has numbers.new.items x) }
+    ensures only { (x : ℤ) → Has numbers.new.items x
+        → Has numbers.old.items x ⊎ IsPrintedFrom graph.now (node ∷ []) x }
 {
     for edge in graph.edges_from(node) {
         add_printed(numbers, edge)?;
@@ -55,6 +61,8 @@ pub fn numbers_from(alloc: Global, graph: &Graph, nodes: &[usize]) -> Result<Vec
     ensures different { IfOk result (λ v. AreDifferent v.items) }
     ensures there { IfOk result (λ v. (e : Edge) (x : ℤ) → HasEdge graph.now e
         → HasNode nodes.now e.from → e.printed ≡ Some x → Has v.items x) }
+    ensures only { IfOk result
+        (λ v. (x : ℤ) → Has v.items x → IsPrintedFrom graph.now nodes.now x) }
 {
     let mut numbers = Vec::new(alloc);
     for node in nodes {
@@ -149,6 +157,8 @@ fn shut(graph: &Graph, set: &mut NodeSet) -> Result<(), AllocError>
     ensures nodes { AreNodes graph.now set.new.nodes }
     ensures shut { OnOk result (IsShut graph.now set.new.nodes) }
     ensures reads { ReadsNoMore graph.now set.new.nodes set.old.nodes }
+    ensures read_to { (numbers : List ℤ) → AreReadTo graph.now numbers set.old.nodes
+        → AreReadTo graph.now numbers set.new.nodes }
 {
     let mut at = 0;
     while at < set.len() {
@@ -191,6 +201,7 @@ pub fn first_nodes(
     ensures shut { IfOk result (λ v. IsShut graph.now v.items) }
     ensures reads { IfOk result (λ v. ReadsNoMore graph.now v.items (0 ∷ [])) }
     ensures first { IfOk result (λ v. HasNode v.items 0) }
+    ensures behind { IfOk result (λ v. AreBehind graph.now [] v.items) }
 {
     set.clear();
     set.put(0)?;

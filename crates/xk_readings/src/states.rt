@@ -2,6 +2,7 @@
 
 ghost use Rattle.std.specs.Prelude.{◌≡◌, ◌<◌, ◌⊎◌, [], ℕ, List, length, slice_get, IfOk, Some};
 ghost use Rattle.xk_readings.specs.Automata.{KeepsStates};
+ghost use Rattle.xk_readings.specs.Beginnings.{AreOnce};
 
 use indexmap::IndexSet;
 use std::alloc::{AllocError, Global};
@@ -34,7 +35,8 @@ impl States {
 
     /// How many they are.
     pub fn len(&self) -> usize
-        ensures { result ≡ length self.now }
+        ensures many { result ≡ length self.now }
+        ensures once { AreOnce self.now }
     {
         self.lists.len()
     }

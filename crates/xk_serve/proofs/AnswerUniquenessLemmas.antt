@@ -77,7 +77,7 @@ Prints (Run (By n) kept) m args logged out log = IsAccepted m × AreArguments m 
 Prints Replay m args logged out log =
     IsAccepted m × (numbers : List ℤ) × (steps : ℕ) × (es : List Entry) × IsLogText logged es × IsReplay m args es numbers steps × (out ≡ number_lines numbers ++ ended_line steps) × (log ≡ [])
 Prints (Draw picture) m args logged out log = ⊥
-Prints (Where at) m args logged out log = ⊥
+Prints (Where json at) m args logged out log = ⊥
 Prints (Races json) m args logged out log = ⊥
 Prints (Tally seed runs) m args logged out log = ⊥
 Prints (OutcomePage window limit pick) m args logged out log = ⊥
@@ -112,7 +112,7 @@ prints (Run (By n) true) m args logged _ h = absurd h
 prints Replay m args logged (done.Ended numbers steps None None) h = (h.0, numbers.items, steps, h.1.0, h.1.1, h.1.2, refl, refl)
 prints Replay m args logged _ h = absurd h
 prints (Draw picture) m args logged d h = absurd h
-prints (Where at) m args logged d h = absurd h
+prints (Where json at) m args logged d h = absurd h
 prints (Races json) m args logged d h = absurd h
 prints (Tally seed runs) m args logged d h = absurd h
 prints (OutcomePage window limit pick) m args logged d h = absurd h
@@ -138,7 +138,7 @@ prints_accepted (Run (Greedy p) true) m args logged out log asks h = h.0
 prints_accepted (Run (By n) kept) m args logged out log asks h = h.0
 prints_accepted Replay m args logged out log asks h = h.0
 prints_accepted (Draw picture) m args logged out log asks h = absurd h
-prints_accepted (Where at) m args logged out log asks h = absurd h
+prints_accepted (Where json at) m args logged out log asks h = absurd h
 prints_accepted (Races json) m args logged out log asks h = absurd h
 prints_accepted (Tally seed runs) m args logged out log asks h = absurd h
 prints_accepted (OutcomePage window limit pick) m args logged out log asks h = absurd h
@@ -161,7 +161,7 @@ prints_taken (Run (Greedy p) true) m args logged out log run h = run_taken _ m a
 prints_taken (Run (By n) kept) m args logged out log run h = h.1
 prints_taken Replay m args logged out log run h = run_taken _ m args h.1 h.2 h.5
 prints_taken (Draw picture) m args logged out log run h = absurd h
-prints_taken (Where at) m args logged out log run h = absurd h
+prints_taken (Where json at) m args logged out log run h = absurd h
 prints_taken (Races json) m args logged out log run h = absurd h
 prints_taken (Tally seed runs) m args logged out log run h = absurd h
 prints_taken (OutcomePage window limit pick) m args logged out log run h = absurd h
@@ -185,7 +185,7 @@ prints_whole Listing m args logged out log reads h = absurd h
 prints_whole (Run way kept) m args logged out log reads h = absurd (false≢true reads)
 prints_whole Replay m args logged out log reads h = (h.3, h.4, replay_whole m args h.1 h.2 h.3 h.5)
 prints_whole (Draw picture) m args logged out log reads h = absurd h
-prints_whole (Where at) m args logged out log reads h = absurd h
+prints_whole (Where json at) m args logged out log reads h = absurd h
 prints_whole (Races json) m args logged out log reads h = absurd h
 prints_whole (Tally seed runs) m args logged out log reads h = absurd h
 prints_whole (OutcomePage window limit pick) m args logged out log reads h = absurd h
@@ -231,7 +231,7 @@ prints_once Replay m args logged out log other kept none p q =
     let same = list_once _ _ m args p.1 q.1 p.2 q.2 p.5 q.5 (p.5.follows ∙ ap schedule_of es ∙ sym q.5.follows) in
     (p.6 ∙ same_lines p.1 q.1 p.2 q.2 same.0 same.1 ∙ sym q.6, p.7 ∙ sym q.7)
 prints_once (Draw picture) m args logged out log other kept none p q = absurd p
-prints_once (Where at) m args logged out log other kept none p q = absurd p
+prints_once (Where json at) m args logged out log other kept none p q = absurd p
 prints_once (Races json) m args logged out log other kept none p q = absurd p
 prints_once (Tally seed runs) m args logged out log other kept none p q = absurd p
 prints_once (OutcomePage window limit pick) m args logged out log other kept none p q = absurd p
@@ -258,7 +258,7 @@ said_determined Listing kind file bytes said f h one = h
 said_determined (Run way kept) kind file bytes said f h one = h
 said_determined Replay kind file bytes said f h one = h
 said_determined (Draw picture) kind file bytes said f h one = h
-said_determined (Where at) kind file bytes said f h one = h
+said_determined (Where json at) kind file bytes said f h one = h
 said_determined (Races json) kind file bytes said f h one = h
 said_determined (Tally seed runs) kind file bytes said f h one = h
 said_determined (OutcomePage window limit pick) kind file bytes said f h one = h
@@ -290,26 +290,26 @@ picture_stands p m args logged es fault.OutOfMemory text legal over told_by may 
 picture_stands p m args logged es fault.Device text legal over told_by may not4 = told_by
 
 -- a text of a log that need not be that of a whole run isn't refused
-text_stands : (at : Option ℕ) (m : ModuleValue) (args : List ℤ) (logged : List ℕ) (es : List Entry) (f : Fault) → IsLogText logged es → IsNoRun m args logged f → MayStand (Where at) f
+text_stands : (json : Bool) (at : Option ℕ) (m : ModuleValue) (args : List ℤ) (logged : List ℕ) (es : List Entry) (f : Fault) → IsLogText logged es → IsNoRun m args logged f → MayStand (Where json at) f
     → status_of f ≢ 4 → ⊥
-text_stands at m args logged es (fault.NotEnabled i) text told_by may not4 = false≢true may
-text_stands at m args logged es fault.NotEnded text told_by may not4 = false≢true may
-text_stands at m args logged es (fault.NoOutcome line) text told_by may not4 = told_by
-text_stands at m args logged es (fault.Grammar line) text told_by may not4 = text_not_wrong logged line es text told_by
-text_stands at m args logged es fault.Truncated text told_by may not4 = text_not_cut logged es text told_by
-text_stands at m args logged es fault.OutOfMemory text told_by may not4 = not4 refl
-text_stands at m args logged es (fault.Text f) text told_by may not4 = told_by
-text_stands at m args logged es (fault.Front f) text told_by may not4 = told_by
-text_stands at m args logged es (fault.Refused r) text told_by may not4 = told_by
-text_stands at m args logged es (fault.Arguments wants has) text told_by may not4 = told_by
-text_stands at m args logged es fault.Device text told_by may not4 = told_by
+text_stands json at m args logged es (fault.NotEnabled i) text told_by may not4 = false≢true may
+text_stands json at m args logged es fault.NotEnded text told_by may not4 = false≢true may
+text_stands json at m args logged es (fault.NoOutcome line) text told_by may not4 = told_by
+text_stands json at m args logged es (fault.Grammar line) text told_by may not4 = text_not_wrong logged line es text told_by
+text_stands json at m args logged es fault.Truncated text told_by may not4 = text_not_cut logged es text told_by
+text_stands json at m args logged es fault.OutOfMemory text told_by may not4 = not4 refl
+text_stands json at m args logged es (fault.Text f) text told_by may not4 = told_by
+text_stands json at m args logged es (fault.Front f) text told_by may not4 = told_by
+text_stands json at m args logged es (fault.Refused r) text told_by may not4 = told_by
+text_stands json at m args logged es (fault.Arguments wants has) text told_by may not4 = told_by
+text_stands json at m args logged es fault.Device text told_by may not4 = told_by
 
 -- a log of which something is told isn't refused
 telling_stands : (what : Doing) (kind : Form) (file bytes : List ℕ) (m : ModuleValue) (args : List ℤ) (logged : List ℕ) (told : Tale) (f : Fault) → reads_log what ≡ true
     → IsTelling what kind file bytes m args logged told → IsNoRun m args logged f → MayStand what f → status_of f ≢ 4 → ⊥
 telling_stands (Draw picture) kind file bytes m args logged told f reads h told_by may not4 =
     let of = h.1 in picture_stands picture m args logged of.0 f of.1 of.2 of.3 told_by may not4
-telling_stands (Where at) kind file bytes m args logged told f reads h told_by may not4 = text_stands at m args logged h.1.1.0 f h.1.1.1 told_by may not4
+telling_stands (Where json at) kind file bytes m args logged told f reads h told_by may not4 = text_stands json at m args logged h.1.1.0 f h.1.1.1 told_by may not4
 telling_stands (Races json) kind file bytes m args logged told f reads h told_by may not4 = false≢true reads
 telling_stands (Tally seed count) kind file bytes m args logged told f reads h told_by may not4 = false≢true reads
 telling_stands (OutcomePage window limit pick) kind file bytes m args logged told f reads h told_by may not4 = false≢true reads
@@ -328,7 +328,7 @@ telling_stands (Json s) kind file bytes m args logged told f reads h told_by may
 telling_taken : (what : Doing) (kind : Form) (file bytes : List ℕ) (m : ModuleValue) (args : List ℤ) (logged : List ℕ) (told : Tale) → runs what ≡ true
     → IsTelling what kind file bytes m args logged told → AreArguments m args
 telling_taken (Draw picture) kind file bytes m args logged told run h = subst (AreArguments m) h.1.2.given h.1.2.leads.0
-telling_taken (Where at) kind file bytes m args logged told run h = h.1.0
+telling_taken (Where json at) kind file bytes m args logged told run h = h.1.0
 telling_taken (Races json) kind file bytes m args logged told run h = run_taken _ m args h.1.0 h.1.1 h.1.3
 telling_taken (Tally seed runs) kind file bytes m args logged told run h = h.1
 telling_taken (OutcomePage window limit pick) kind file bytes m args logged told run h = h.1.3.found.taken
@@ -349,7 +349,7 @@ telling_unprinted : (what : Doing) (kind : Form) (file bytes : List ℕ) (m : Mo
 telling_unprinted (Explain json) kind file bytes m args logged told out log h p = p
 telling_unprinted Listing kind file bytes m args logged told out log h p = p
 telling_unprinted (Draw picture) kind file bytes m args logged told out log h p = p
-telling_unprinted (Where at) kind file bytes m args logged told out log h p = p
+telling_unprinted (Where json at) kind file bytes m args logged told out log h p = p
 telling_unprinted (Races json) kind file bytes m args logged told out log h p = p
 telling_unprinted (Tally seed runs) kind file bytes m args logged told out log h p = p
 telling_unprinted (OutcomePage window limit pick) kind file bytes m args logged told out log h p = p
@@ -366,7 +366,7 @@ telling_accepted : (what : Doing) (kind : Form) (file bytes : List ℕ) (m : Mod
     → IsTelling what kind file bytes m args logged told → IsAccepted m
 telling_accepted (Explain json) kind file bytes m args logged told asks h = h.0
 telling_accepted (Draw picture) kind file bytes m args logged told asks h = h.0
-telling_accepted (Where at) kind file bytes m args logged told asks h = h.0
+telling_accepted (Where json at) kind file bytes m args logged told asks h = h.0
 telling_accepted (Races json) kind file bytes m args logged told asks h = h.0
 telling_accepted (Tally seed runs) kind file bytes m args logged told asks h = h.0
 telling_accepted (OutcomePage window limit pick) kind file bytes m args logged told asks h = h.0
@@ -418,7 +418,7 @@ lists_alone Listing lists = absurd (false≢true lists)
 lists_alone (Run way kept) lists = absurd (false≢true lists)
 lists_alone Replay lists = absurd (false≢true lists)
 lists_alone (Draw picture) lists = absurd (false≢true lists)
-lists_alone (Where at) lists = absurd (false≢true lists)
+lists_alone (Where json at) lists = absurd (false≢true lists)
 lists_alone (Races json) lists = absurd (false≢true lists)
 lists_alone (Tally seed runs) lists = absurd (false≢true lists)
 lists_alone (OutcomePage window limit pick) lists = absurd (false≢true lists)
@@ -506,7 +506,7 @@ determined (Run (Greedy p) kept) one = tt
 determined (Run (By n) kept) one = absurd one
 determined Replay one = tt
 determined (Draw picture) one = tt
-determined (Where at) one = tt
+determined (Where json at) one = tt
 determined (Races json) one = tt
 determined (Tally seed runs) one = tt
 determined (OutcomePage window limit pick) one = absurd one
@@ -526,7 +526,7 @@ determined_status (Run (Greedy p) kept) one = tt
 determined_status (Run (By n) kept) one = absurd one
 determined_status Replay one = tt
 determined_status (Draw picture) one = tt
-determined_status (Where at) one = tt
+determined_status (Where json at) one = tt
 determined_status (Races json) one = tt
 determined_status (Tally seed runs) one = tt
 determined_status (OutcomePage window limit pick) one = absurd one

@@ -11,7 +11,7 @@ use Rattle.xk_io.proofs.DeviceLemmas.{appends_then, beginning_more, beginning_th
 use Rattle.xk_log.specs.LogText.{ended, head_line}
 use Rattle.xk_jobs.specs.declared.job.Form.{Form}
 use Rattle.xk_jobs.specs.declared.job.Form.TheVariants as form
-use Rattle.xk_answers.specs.Results.{Doing, Draw, lanes_given}
+use Rattle.xk_answers.specs.Results.{Doing, Draw, lanes_given, page_given}
 use Rattle.xk_program.specs.Bytes.{FailsRead, kept}
 use Rattle.xk_program.specs.Programs.{longest_module, longest_source}
 use Rattle.xk_program.specs.declared.fault.Fault.{Fault}
@@ -27,6 +27,11 @@ pub lanes_noted : (from to : Option ℕ) (svg path : Bool) → true ≡ may_note
 lanes_noted from to false false = refl
 lanes_noted from to true false = refl
 lanes_noted from to svg true = refl
+
+-- and so are pages
+pub pages : (from to : Option ℕ) (path : Bool) → true ≡ may_note (Draw (page_given from to path))
+pages from to false = refl
+pages from to true = refl
 
 -- races are those of a log where one is given
 pub races_noted : (json given : Bool) → given ≡ may_note (races_by json given)

@@ -20,7 +20,8 @@ use Rattle.xk_answers.specs.Results.{Check, Compile, Count, Doing, Draw, Expecte
 use Rattle.xk_answers.specs.Results.{Json, Listing, OutcomePage, Outcomes, Races, Replay, Run, Tally, Where}
 use Rattle.xk_program.specs.Origins.{HaveOrigins, HaveSharedNames, IsByNames, IsByOrigins}
 use Rattle.xk_answers.specs.Explanation.{HaveHints, IsListed, Tale, acceptance_told, event_values_so_far, events_so_far, image_so_far}
-use Rattle.xk_answers.specs.Explanation.{lanes_so_far, page_so_far, path_told, races_told, rounds_told, span_told, where_told}
+use Rattle.xk_answers.specs.Explanation.{lanes_so_far, page_so_far, path_page_told, path_told, races_told, rounds_told, span_told}
+use Rattle.xk_answers.specs.Explanation.{where_told}
 use Rattle.xk_answers.specs.Explanation.{why_told}
 use Rattle.xk_jobs.specs.declared.job.Order.TheVariants as order
 use Rattle.xk_program.specs.Programs.{Gives}
@@ -95,8 +96,10 @@ picture_once picture.Rounds kind file bytes m args es last a b given h k =
     by_names_once kind bytes m (rounds_told bytes m es last) a b given h k
 picture_once (picture.Page window) kind file bytes m args es last a b given h k =
     by_names_once kind bytes m (page_so_far file bytes window m es last) a b given h k
-picture_once picture.Span kind file bytes m args es last a b given h k =
-    by_origins_once kind bytes m (span_told bytes m args es) a b given h k
+picture_once (picture.PathPage window) kind file bytes m args es last a b given h k =
+    by_names_once kind bytes m (path_page_told file bytes window m es last) a b given h k
+picture_once (picture.Span json) kind file bytes m args es last a b given h k =
+    by_origins_once kind bytes m (span_told json bytes m args es) a b given h k
 picture_once (picture.Why step) kind file bytes m args es last a b given h k =
     by_names_once kind bytes m (why_told bytes step m args es) a b given h k
 picture_once (picture.Races json) kind file bytes m args es last a b given h k =
@@ -117,12 +120,12 @@ telling_once (Draw picture) kind file bytes m args logged a b one given h k =
     let last = last_once m args k.1.0 h.1.0 same k.1.2 h.1.2 in
     picture_once picture kind file bytes m args h.1.0 h.1.2.last a b given h.1.4
     (subst (λ w. IsPicture picture kind file bytes m args h.1.0 w b) last (subst (λ es. IsPicture picture kind file bytes m args es k.1.2.last b) same k.1.4))
-telling_once (Where at) kind file bytes m args logged a b one given h k =
+telling_once (Where json at) kind file bytes m args logged a b one given h k =
     let here = h.1.1 in
     let there = k.1.1 in
     let same = text_once logged there.0 here.0 there.1 here.1 in
-    by_names_once kind bytes m (where_told bytes m args at here.0) a b given here.2
-    (subst (λ es. IsByNames kind bytes (where_told bytes m args at es) b) same there.2)
+    by_names_once kind bytes m (where_told json bytes m args at here.0) a b given here.2
+    (subst (λ es. IsByNames kind bytes (where_told json bytes m args at es) b) same there.2)
 telling_once (Races json) kind file bytes m args logged a b one given h k =
     let here = h.1 in
     let there = k.1 in

@@ -22,7 +22,7 @@ use Rattle.xk_program.specs.Lines.{status_of}
 use Rattle.xk_serve.specs.Notes.{told_of}
 use Rattle.xk_program.specs.Programs.{Gives, IsNoModule, IsNoSource}
 use Rattle.xk_answers.specs.Explanation.{IsExplanation}
-use Rattle.xk_answers.specs.Results.{Doing, way_given, window_given, lanes_given, list_in, ComesTo, IsTelling, IsText, IsNoRun}
+use Rattle.xk_answers.specs.Results.{Doing, way_given, window_given, lanes_given, list_in, page_given, ComesTo, IsTelling, IsText, IsNoRun}
 use Rattle.xk_answers.specs.Results.{is_of_whole, Check, Count, Explain, Compile, Listing, Run, Replay, Draw, Where, Races, Tally, Outcomes}
 use Rattle.xk_answers.specs.Results.{Expected}
 use Rattle.xk_answers.specs.Results.{ExpectedShown, Json, OutcomePage, OutcomesShown, RunShown, Shown}
@@ -46,7 +46,7 @@ asks_verifier _ = true
 abbrev pub reads_log : Doing → Bool
 reads_log Replay = true
 reads_log (Draw picture) = true
-reads_log (Where at) = true
+reads_log (Where json at) = true
 reads_log _ = false
 
 -- whether outcomes are held against a list
@@ -66,12 +66,12 @@ reads_more what = reads_log what || reads_list what
 
 -- whether each step of the log that is read has to be one that can be taken
 abbrev pub wants_legal : Doing → Bool
-wants_legal (Where at) = false
+wants_legal (Where json at) = false
 wants_legal _ = true
 
 -- whether that log has to be one of a whole run
 abbrev pub wants_whole : Doing → Bool
-wants_whole (Where at) = false
+wants_whole (Where json at) = false
 wants_whole (Draw picture) = is_of_whole picture
 wants_whole _ = true
 
@@ -85,6 +85,8 @@ abbrev pub values_doing : Values → Doing
 values_doing (values.Run given path) = Json (RunShown (way_given given) (is_some path))
 values_doing (values.Events log) = Draw picture.EventValues
 values_doing (values.Races path) = races_by true (is_some path)
+values_doing (values.Where log at) = Where true at
+values_doing (values.Span log) = Draw (picture.Span true)
 values_doing (values.Outcomes limit pick path sets) = Json (OutcomesShown sets limit (unwrap_or pick 1) (is_some path))
 values_doing (values.Expected list limit sets) = Json (ExpectedShown sets limit)
 
@@ -99,11 +101,11 @@ doing_of (command.Replay log) = Replay
 doing_of (command.Chart log) = Draw picture.Chart
 doing_of (command.Events log) = Draw picture.Events
 doing_of (command.Lanes log from to svg path) = Draw (lanes_given from to svg path)
-doing_of (command.Page log from to) = Draw (picture.Page (window_given from to))
+doing_of (command.Page log from to path) = Draw (page_given from to path)
 doing_of (command.OutcomePage pick limit from to) = OutcomePage (window_given from to) limit pick
-doing_of (command.Where log at) = Where at
+doing_of (command.Where log at) = Where false at
 doing_of (command.Rounds log) = Draw picture.Rounds
-doing_of (command.Span log) = Draw picture.Span
+doing_of (command.Span log) = Draw (picture.Span false)
 doing_of (command.Why log step) = Draw (picture.Why step)
 doing_of (command.Races path) = races_by false (is_some path)
 doing_of (command.Tally seed runs) = Tally seed runs

@@ -12,7 +12,7 @@ use Rattle.xk_program.specs.Lines.{fault_line}
 abbrev pub may_note : Doing → Bool
 may_note (Draw picture.Chart) = false
 may_note (Draw picture) = true
-may_note (Where at) = true
+may_note (Where json at) = true
 may_note _ = false
 
 -- the bytes begin as each log does, with its first line

@@ -19,7 +19,8 @@ use crate::tally::tallied;
 use crate::values::answer_values;
 use std::alloc::{AllocError, Global};
 use xk_answers::{
-    Done, Finished, Picture, drawn, lanes_given, listing, raced, replayed, stood, window_given,
+    Done, Finished, Picture, drawn, lanes_given, listing, page_given, raced, replayed, stood,
+    window_given,
 };
 use xk_bounds::Verified;
 use xk_jobs::{Command, Drive, Job, Order};
@@ -82,8 +83,8 @@ pub(crate) fn answer<
             let rounds = Picture::Rounds;
             drawn(alloc, rounds, job.file, program, arguments, log_in)
         }
-        Command::Page { from, to, .. } => {
-            let page = Picture::Page(window_given(from, to));
+        Command::Page { from, to, path, .. } => {
+            let page = page_given(from, to, path);
             drawn(alloc, page, job.file, program, arguments, log_in)
         }
         Command::OutcomePage {
@@ -96,14 +97,14 @@ pub(crate) fn answer<
             paged(alloc, window, limit, pick, job.file, program, arguments)
         }
         Command::Span { .. } => {
-            let span = Picture::Span;
+            let span = Picture::Span(false);
             drawn(alloc, span, job.file, program, arguments, log_in)
         }
         Command::Why { step, .. } => {
             let why = Picture::Why(step);
             drawn(alloc, why, job.file, program, arguments, log_in)
         }
-        Command::Where { at, .. } => stood(alloc, program, at, arguments, log_in),
+        Command::Where { at, .. } => stood(alloc, false, program, at, arguments, log_in),
         Command::Races { log } => {
             let given = log.is_some();
             if given {

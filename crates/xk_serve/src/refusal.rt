@@ -78,7 +78,7 @@ fn note_of(command: &Command<'_>, bytes: &[u8], fault: &Fault) -> &'static str
 }
 
 /// Whether it may be told that FILE is a log: a log is read beside it, and the specification leaves open what is told.
-#[tactic(auto, using(crate::proofs::NoteLemmas::lanes_noted, crate::proofs::NoteLemmas::races_noted))]
+#[tactic(auto, using(crate::proofs::NoteLemmas::lanes_noted, crate::proofs::NoteLemmas::pages, crate::proofs::NoteLemmas::races_noted))]
 fn may_note(command: &Command<'_>) -> bool
     ensures { result ≡ may_note (doing_of command.now) }
 {
@@ -113,7 +113,7 @@ fn may_note_values(values: &Values<'_>) -> bool
     ensures { result ≡ may_note (values_doing values.now) }
 {
     match values {
-        Values::Events { .. } => true,
+        Values::Events { .. } | Values::Where { .. } | Values::Span { .. } => true,
         Values::Races { log } => log.is_some(),
         Values::Run { .. } | Values::Outcomes { .. } | Values::Expected { .. } => false,
     }

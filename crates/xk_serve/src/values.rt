@@ -22,7 +22,7 @@ ghost use Rattle.xk_serve.specs.Devices.{AgainstLog, IsListReadToLimit, read_of}
 
 use crate::commands::run_by;
 use std::alloc::{AllocError, Global};
-use xk_answers::{Done, Finished, Picture, drawn, raced};
+use xk_answers::{Done, Finished, Picture, drawn, raced, stood};
 use xk_bounds::Verified;
 use xk_jobs::{Drive, Job, Order, Values};
 use xk_outcome_answers::{LONGEST_LIST, kept_log};
@@ -76,6 +76,11 @@ pub(crate) fn answer_values<
                 return drawn(alloc, races, job.file, program, arguments, log_in);
             }
             raced(alloc, true, program, arguments)
+        }
+        Values::Where { at, .. } => stood(alloc, true, program, at, arguments, log_in),
+        Values::Span { .. } => {
+            let span = Picture::Span(true);
+            drawn(alloc, span, job.file, program, arguments, log_in)
         }
         Values::Outcomes {
             limit,

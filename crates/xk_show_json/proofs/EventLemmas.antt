@@ -18,12 +18,12 @@ use Rattle.xk_json.proofs.PlainLemmas.{AreFlat, number_plain, object_of_plain, t
 use Rattle.xk_show_json.specs.Events.{event_groups, event_value, name_member, operand_member, origin_members, step_members, subject_members}
 use Rattle.xk_show_json.specs.Events.{value_member}
 
-step_flat : (s : RunStep) → AreFlat 0 (step_members s)
-step_flat s = (number_plain _, (text_plain _, (number_plain _, (number_plain _, (number_plain _, tt)))))
+pub step_flat : (n : ℕ) (s : RunStep) → AreFlat n (step_members s)
+step_flat n s = (number_plain _, (text_plain _, (number_plain _, (number_plain _, (number_plain _, tt)))))
 
-origin_flat : (o : Option Position) → AreFlat 0 (origin_members o)
-origin_flat None = tt
-origin_flat (Some p) = (number_plain _, (number_plain _, tt))
+pub origin_flat : (n : ℕ) (o : Option Position) → AreFlat n (origin_members o)
+origin_flat n None = tt
+origin_flat n (Some p) = (number_plain _, (number_plain _, tt))
 
 operand_flat : (n : ℕ) (e : Event) → AreFlat 0 (operand_member n e)
 operand_flat n (event.Printed (pos i)) = (record { no_float = refl; nests = omega arith }, tt)
@@ -59,9 +59,9 @@ value_flat key (Some (negsuc i)) = (record { no_float = refl; nests = omega arit
 pub event_plain : (p : PlacesValue) (names : Option NamesValue) (a : Account) → IsPlain 1 (event_value p names a)
 event_plain p names a =
     object_of_plain 0 (event_groups p names a) (
-      step_flat a.step,
+      step_flat 0 a.step,
       (
-        origin_flat (origin_of p a.step.unit a.step.place),
+        origin_flat 0 (origin_of p a.step.unit a.step.place),
         (
           operand_flat a.step.activities a.step.event,
           (subject_flat 0 names a.subject, (value_flat (codes "before") a.before, (value_flat (codes "after") a.after, tt))),

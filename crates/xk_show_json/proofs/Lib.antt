@@ -1,3 +1,4 @@
 mod Examples
 pub mod EventLemmas
 mod ListLemmas
+pub mod PlainListLemmas

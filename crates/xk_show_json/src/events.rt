@@ -21,7 +21,7 @@ use xk_types::Event;
 use xk_unit_origins::UnitOrigins;
 
 /// What a step did, in a word.
-fn event_name(event: Event) -> &'static str
+pub fn event_name(event: Event) -> &'static str
     ensures { result.now ≡ event_name event }
 {
     match event {
@@ -42,8 +42,8 @@ fn event_name(event: Event) -> &'static str
     }
 }
 
-/// Adds which step it was, whose, at which instruction, and what it did in a word.
-fn put_step(alloc: Global, object: &mut Object, step: &RunStep) -> Result<(), AllocError>
+/// Adds which step it was, whose, at which instruction, and what it did in a word. Err where memory was refused.
+pub fn put_step(alloc: Global, object: &mut Object, step: &RunStep) -> Result<(), AllocError>
     ensures { OnOk result (Gains (step_members step.now) object.old object.new) }
 {
     object.put_number(alloc, "act", step.act as u64)?;
@@ -53,8 +53,8 @@ fn put_step(alloc: Global, object: &mut Object, step: &RunStep) -> Result<(), Al
     object.put_number(alloc, "unit", step.unit as u64)
 }
 
-/// Adds the line and column that its instruction comes from, if they are known.
-fn put_origin(
+/// Adds the line and column that an instruction comes from, if they are known. Err where memory was refused.
+pub fn put_origin(
     alloc: Global,
     object: &mut Object,
     origin: Option<Position>,

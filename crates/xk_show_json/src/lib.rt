@@ -7,7 +7,9 @@ mod outcomes;
 mod runs;
 mod subjects;
 
-pub use events::{event_value, module_event_values, source_event_values};
+pub use events::{
+    event_name, event_value, module_event_values, put_origin, put_step, source_event_values,
+};
 pub use outcomes::{held_json, outcomes_json};
 pub use runs::run_json;
 pub use subjects::put_subject;

@@ -30,8 +30,8 @@ fn bound_by(limit: u16, instr: &Instr) -> Option<Bound>
     }
 }
 
-/// Those of the first such loop.
-pub(crate) fn bound_in(limit: u16, code: &[Instr]) -> Option<Bound>
+/// Those of the first loop among these instructions that goes no further up than the number in this slot, if there is one.
+pub fn bound_in(limit: u16, code: &[Instr]) -> Option<Bound>
     ensures { result ≡ bound_in limit code.now }
 {
     for instr in code {
@@ -44,7 +44,7 @@ pub(crate) fn bound_in(limit: u16, code: &[Instr]) -> Option<Bound>
 }
 
 /// The lesser of two numbers.
-pub(crate) fn lesser(number: i64, most: i64) -> i64
+pub fn lesser(number: i64, most: i64) -> i64
     ensures { result ≡ lesser number most }
 {
     if number < most { number } else { most }

@@ -5,5 +5,6 @@ mod bounds;
 mod locals;
 mod slots;
 
-pub use locals::push_locals;
-pub use slots::push_name;
+pub use bounds::{Bound, bound_in, lesser};
+pub use locals::{code_of, push_locals, push_unit};
+pub use slots::{is_name, name_at, push_name};

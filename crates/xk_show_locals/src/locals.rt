@@ -54,7 +54,7 @@ fn frame_words(
 }
 
 /// The code of a unit.
-fn code_of(verified: &Verified, unit: u16) -> &[Instr]
+pub fn code_of(verified: &Verified, unit: u16) -> &[Instr]
     ensures { result.now ≡ code_of verified.now unit }
 {
     match verified.module().units().get(unit as usize) {
@@ -63,8 +63,8 @@ fn code_of(verified: &Verified, unit: u16) -> &[Instr]
     }
 }
 
-/// Adds a method's name, or `async`.
-fn push_unit(out: &mut Vec<u8>, name: Option<&[u8]>) -> Result<(), AllocError>
+/// Adds a method's name, or `async`. Err where memory was refused.
+pub fn push_unit(out: &mut Vec<u8>, name: Option<&[u8]>) -> Result<(), AllocError>
     ensures { OnOk result (out.new.items ≡ out.old.items
         ++ unit_word (option_map (λ x. x.now) name.entry)) }
 {

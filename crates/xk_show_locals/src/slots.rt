@@ -38,15 +38,15 @@ pub fn push_name(out: &mut Vec<u8>, name: &[u8]) -> Result<(), AllocError>
     Ok(())
 }
 
-/// Whether it is a name of the text.
-fn is_name(name: &[u8]) -> bool
+/// Whether it is a name of the text: those that no text has are of blanks.
+pub fn is_name(name: &[u8]) -> bool
     ensures { result ≡ is_name name.now }
 {
     name.iter().any(|b| *b != b' ')
 }
 
-/// What a slot is called.
-fn name_at<'t>(names: &[&'t [u8]], slot: u16) -> &'t [u8]
+/// What a slot is called by these names; temporaries are called nothing.
+pub fn name_at<'t>(names: &[&'t [u8]], slot: u16) -> &'t [u8]
     ensures { result.now ≡ name_at (map (λ x. x.now) names.now) slot }
 {
     match names.get(slot as usize) {

@@ -24,20 +24,28 @@ use Rattle.xk_show_page.specs.declared.furniture.TheConstants.{COLOURS, PLACES, 
 
 -- ---- what stands in each page
 
--- The page's first lines, up to its title. The policy forbids it to fetch anything. It lets one script run, and two styles count, by the sums of
--- their bytes: the page's own, and the picture's style (Content Security Policy, level 2).
-unfoldable pub page_top : List ℕ
-page_top =
+-- the page's first lines, up to which styles and scripts its policy lets count: it forbids it to fetch anything
+unfoldable pub first_lines : List ℕ
+first_lines =
     codes "<!DOCTYPE html>\n"
     ++ (codes "<html lang=\"en\">\n"
     ++ (codes "<head>\n"
     ++ (codes "<meta charset=\"utf-8\">\n"
     ++ (codes "<meta name=\"viewport\" content=\"width=device-width, initial-scale=1\">\n"
-    ++ (codes "<meta http-equiv=\"Content-Security-Policy\" content=\"default-src 'none'; "
-    ++ (codes "style-src 'sha256-QW0jIMtXTkkfaYlBND2dXOB+8VgibctLm50Yf0JGq0A=' "
+    ++ codes "<meta http-equiv=\"Content-Security-Policy\" content=\"default-src 'none'; "))))
+
+-- It lets one script run, and two styles count, by the sums of their bytes: the page's own, and the picture's style (Content Security
+-- Policy, level 2). Then its title begins.
+unfoldable pub page_policy : List ℕ
+page_policy =
+    codes "style-src 'sha256-QW0jIMtXTkkfaYlBND2dXOB+8VgibctLm50Yf0JGq0A=' "
     ++ (codes "'sha256-1Mhn6nywKkLaXR5W9I5AIbKxhh5lqmYSXkp8j1iVKwY='; "
     ++ (codes "script-src 'sha256-uxq7+y06EA9sB4bPJa0xOnw2yHT9pTDPpFC8SiTq/08='\">\n"
-    ++ codes "<title>A run"))))))))
+    ++ codes "<title>A run"))
+
+-- its first lines, up to its title
+unfoldable pub page_top : List ℕ
+page_top = first_lines ++ page_policy
 
 -- the end of its title, and the beginning of its style
 unfoldable pub title_ends : List ℕ
@@ -69,9 +77,17 @@ behind_source = (source_ends ++ LISTS.now) ++ picture_begins
 unfoldable pub behind_picture : List ℕ
 behind_picture = codes "</div>\n</section>\n</main>\n<script type=\"text/plain\" id=\"moments\">\n"
 
+-- the script that shows the moments
+unfoldable pub script : List ℕ
+script = (READER.now ++ SHOWER.now) ++ MOVER.now
+
+-- the end of the script's element, and of the page
+unfoldable pub page_ends : List ℕ
+page_ends = codes "</script>\n</body>\n</html>\n"
+
 -- behind the moments: the script that shows them
 unfoldable pub page_tail : List ℕ
-page_tail = (((codes "</script>\n<script>\n" ++ READER.now) ++ SHOWER.now) ++ MOVER.now) ++ codes "</script>\n</body>\n</html>\n"
+page_tail = (codes "</script>\n<script>\n" ++ script) ++ page_ends
 
 -- ---- the source text
 
@@ -95,13 +111,17 @@ of_file file = if is_nameless file then [] else codes " of " ++ escaped file
 
 -- ---- before the source text
 
--- what stands in the head of the page of a file
+-- behind the first lines of the page of a file: the rest of its title, and the page's own style
 unfoldable pub page_look : List ℕ → List ℕ
-page_look file = (((((page_top ++ of_file file) ++ title_ends) ++ COLOURS.now) ++ PLACES.now) ++ MARKS.now) ++ style_ends
+page_look file = (((of_file file ++ title_ends) ++ COLOURS.now) ++ PLACES.now) ++ MARKS.now
+
+-- from the beginning of its body to that of the source text
+unfoldable pub body_head : List ℕ → List ℕ
+body_head file = ((body_begins ++ of_file file) ++ CONTROLS.now) ++ source_begins
 
 -- before the source text
 unfoldable pub page_head : List ℕ → List ℕ
-page_head file = (((page_look file ++ body_begins) ++ of_file file) ++ CONTROLS.now) ++ source_begins
+page_head file = ((page_top ++ page_look file) ++ style_ends) ++ body_head file
 
 -- ---- moments
 

@@ -2,13 +2,13 @@
 //! shows moments. The definitions name these texts, and spell those elements, and the policy.
 
 ghost use Rattle.std.specs.Prelude.{◌≡◌};
-ghost use Rattle.xk_show_page.specs.Page.{body_begins, page_top, picture_begins, source_begins, source_ends, style_ends, title_ends};
+ghost use Rattle.xk_show_page.specs.Page.{body_begins, first_lines, page_ends, page_policy, picture_begins};
+ghost use Rattle.xk_show_page.specs.Page.{source_begins, source_ends, style_ends, title_ends};
 
-/// The page's first lines, up to its title. Its policy has the sums of its script and of both styles: whoever changes one of these is told
-/// the new sum by tests/program/html_pages.py.
-#[tactic(auto, unfolding(crate::specs::Page::page_top))]
-pub(crate) fn top() -> &'static str
-    ensures { result.now ≡ page_top }
+/// The page's first lines, up to which styles and scripts its policy lets count.
+#[tactic(auto, unfolding(crate::specs::Page::first_lines))]
+pub fn first_lines() -> &'static str
+    ensures { result.now ≡ first_lines }
 {
     "\
 <!DOCTYPE html>\n\
@@ -16,7 +16,16 @@ pub(crate) fn top() -> &'static str
 <head>\n\
 <meta charset=\"utf-8\">\n\
 <meta name=\"viewport\" content=\"width=device-width, initial-scale=1\">\n\
-<meta http-equiv=\"Content-Security-Policy\" content=\"default-src 'none'; \
+<meta http-equiv=\"Content-Security-Policy\" content=\"default-src 'none'; "
+}
+
+/// The sums of its script and of both styles, and the beginning of its title: whoever changes one of these is told the new sum by
+/// tests/program/html_pages.py.
+#[tactic(auto, unfolding(crate::specs::Page::page_policy))]
+pub(crate) fn policy() -> &'static str
+    ensures { result.now ≡ page_policy }
+{
+    "\
 style-src 'sha256-QW0jIMtXTkkfaYlBND2dXOB+8VgibctLm50Yf0JGq0A=' \
 'sha256-1Mhn6nywKkLaXR5W9I5AIbKxhh5lqmYSXkp8j1iVKwY='; \
 script-src 'sha256-uxq7+y06EA9sB4bPJa0xOnw2yHT9pTDPpFC8SiTq/08='\">\n\
@@ -41,10 +50,18 @@ pub(crate) fn body_begins() -> &'static str
 
 /// The end of the page's style.
 #[tactic(auto, unfolding(crate::specs::Page::style_ends))]
-pub(crate) fn style_ends() -> &'static str
+pub fn style_ends() -> &'static str
     ensures { result.now ≡ style_ends }
 {
     "</style>\n</head>\n"
+}
+
+/// The end of the script's element, and of the page.
+#[tactic(auto, unfolding(crate::specs::Page::page_ends))]
+pub fn page_ends() -> &'static str
+    ensures { result.now ≡ page_ends }
+{
+    "</script>\n</body>\n</html>\n"
 }
 
 /// The beginning of the source text's element.

@@ -3,14 +3,14 @@
 ghost use Rattle.std.specs.Prelude.{◌≡◌, None, ◌++◌, IfOk, OnOk, string_bytes};
 ghost use Rattle.xk_types.specs.World.{opening};
 ghost use Rattle.xk_show_names.specs.Events.{step_words};
-ghost use Rattle.xk_show_page.specs.Page.{is_moment, line_of, moment, named_line, print_by, standings_by, told_step};
+ghost use Rattle.xk_show_page.specs.Page.{is_moment, line_of, moment, moments, named_line, print_by, standings_by, told_step};
 
 use crate::texts::put;
 use std::alloc::{AllocError, Global};
 use xk_core::Core;
 use xk_show_events::{LegalRun, Places, RunStep, event_line, is_seen, place_words};
 use xk_show_lanes::Window;
-use xk_show_names::{Account, Names, Recount, account_words};
+use xk_show_names::{Account, Names, Recount, account_words, recount_run};
 use xk_show_where::{named_standings_text, standings_text};
 use xk_types::Event;
 
@@ -205,4 +205,27 @@ pub(crate) fn push_opening(
 {
     let core = Core::open(alloc, legal.module, legal.core.arguments())?;
     push_standings(alloc, out, places, names, &core)
+}
+
+/// How things stand before the first step of a run, and behind each one that is asked for and that others can see. Err where
+/// memory was refused.
+pub fn moments_of(
+    alloc: Global,
+    places: &Places<'_>,
+    names: &Option<Names<'_>>,
+    legal: &LegalRun<'_, '_>,
+    window: Window,
+) -> Result<Vec<u8>, AllocError>
+    ensures { IfOk result (λ v. v.items ≡ moments window places.now names.now
+        legal.now.module.now legal.now.log.now legal.now.core.now.world) }
+{
+    let teller = MomentTeller {
+        window,
+        places,
+        names,
+    };
+    let mut out = Vec::new(alloc);
+    push_opening(alloc, &mut out, places, names, legal)?;
+    recount_run(&teller, alloc, &mut out, legal)?;
+    Ok(out)
 }

@@ -32,8 +32,8 @@ pub fn form_of(picture: bool) -> PathForm
     }
 }
 
-/// These steps of a run in this form.
-fn path_drawn(
+/// These steps of a run in this form, with the places that these origins give. Err where memory was refused.
+pub fn path_drawn(
     alloc: Global,
     form: PathForm,
     places: &Places<'_>,

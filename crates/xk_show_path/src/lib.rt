@@ -11,5 +11,6 @@ mod rounds;
 mod shapes;
 
 pub use columns::{Columns, columns_for};
-pub use forms::{PathForm, form_of, module_path, source_path};
+pub use forms::{PathForm, form_of, module_path, path_drawn, source_path};
+pub use line::boxes_of;
 pub use rounds::Rounds;

@@ -26,12 +26,8 @@ fn push_if_box(list: &mut Vec<RunStep>, window: Window, step: &RunStep) -> Resul
     Ok(())
 }
 
-/// The steps of a path that have a box.
-pub(crate) fn boxes_of(
-    alloc: Global,
-    window: Window,
-    path: &[RunStep],
-) -> Result<Vec<RunStep>, AllocError>
+/// The steps of a path that have a box: those that are asked for, and that others can see. Err where memory was refused.
+pub fn boxes_of(alloc: Global, window: Window, path: &[RunStep]) -> Result<Vec<RunStep>, AllocError>
     ensures { IfOk result (λ v. v.items ≡ boxes_of window path.now) }
 {
     let mut list = Vec::new(alloc);

@@ -10,4 +10,8 @@ mod spots;
 mod text;
 mod wait_lines;
 
-pub use report::{SpanReport, module_span, source_span};
+pub use lines::lines_of;
+pub use phase_lines::{earlier_of, last_of, last_round};
+pub use phases::{Arrival, Coming};
+pub use report::{SpanReport, is_free, module_span, source_span, span};
+pub use text::work_of;

@@ -18,8 +18,12 @@ fn add_at(counts: &mut Vec<usize>, position: Option<Position>) -> Result<(), All
     }
 }
 
-/// How many steps of a path come from each line.
-fn lines_of(alloc: Global, places: &Places<'_>, path: &[RunStep]) -> Result<Vec<usize>, AllocError>
+/// How many steps of a path come from each line. Err where memory was refused.
+pub fn lines_of(
+    alloc: Global,
+    places: &Places<'_>,
+    path: &[RunStep],
+) -> Result<Vec<usize>, AllocError>
     ensures { IfOk result (λ v. v.items ≡ lines_of places.now path.now) }
 {
     let mut counts = Vec::new(alloc);

@@ -9,8 +9,8 @@ use crate::spots::spot;
 use std::alloc::{AllocError, Global};
 use xk_show_events::Places;
 
-/// The last round of these.
-fn last_round(list: &[Arrival]) -> usize
+/// The last round of these; 0 where there is none.
+pub fn last_round(list: &[Arrival]) -> usize
     ensures { result ≡ last_round 0 list.now }
 {
     let mut round = 0;
@@ -30,8 +30,8 @@ fn push_if_last(list: &mut Vec<Arrival>, round: usize, a: &Arrival) -> Result<()
     Ok(())
 }
 
-/// Those of this round.
-fn last_of(alloc: Global, round: usize, all: &[Arrival]) -> Result<Vec<Arrival>, AllocError>
+/// Those of this round. Err where memory was refused.
+pub fn last_of(alloc: Global, round: usize, all: &[Arrival]) -> Result<Vec<Arrival>, AllocError>
     ensures { IfOk result (λ v. v.items ≡ flat_map (if_last round) all.now) }
 {
     let mut list = Vec::new(alloc);
@@ -51,8 +51,8 @@ fn push_if_earlier(list: &mut Vec<Arrival>, round: usize, a: &Arrival) -> Result
     Ok(())
 }
 
-/// Those of earlier rounds.
-fn earlier_of(alloc: Global, round: usize, all: &[Arrival]) -> Result<Vec<Arrival>, AllocError>
+/// Those of earlier rounds. Err where memory was refused.
+pub fn earlier_of(alloc: Global, round: usize, all: &[Arrival]) -> Result<Vec<Arrival>, AllocError>
     ensures { IfOk result (λ v. v.items ≡ flat_map (if_earlier round) all.now) }
 {
     let mut list = Vec::new(alloc);

@@ -115,7 +115,7 @@ fn staying(alloc: Global, c: u32, all: &[Arrival]) -> Result<Vec<Arrival>, Alloc
 
 /// What is known behind some deeds: how many advances there were, the phase of each clock, and who came.
 #[derive(Drop)]
-struct Coming {
+pub struct Coming {
     advances: usize,
     phases: Vec<usize>,
     arrivals: Vec<Arrival>,
@@ -135,7 +135,7 @@ impl Model for Coming {
 
 impl Coming {
     /// Before the first deed.
-    fn nobody(alloc: Global) -> Coming
+    pub fn nobody(alloc: Global) -> Coming
         ensures { result ≡ nobody }
     {
         Coming {
@@ -157,14 +157,28 @@ impl Coming {
         Ok(())
     }
 
-    /// A deed in a round.
-    fn take(&mut self, alloc: Global, deed: &Deed, round: usize) -> Result<(), AllocError>
+    /// A deed in a round. Err where memory was refused.
+    pub fn take(&mut self, alloc: Global, deed: &Deed, round: usize) -> Result<(), AllocError>
         ensures { OnOk result (self.new ≡ coming_with deed.now.part deed.now round self.old) }
     {
         match deed.part {
             Part::Advance(c) => self.advance(alloc, c),
             _ => push_came(&mut self.arrivals, deed, round),
         }
+    }
+
+    /// The phase that clock c advances to next. Err where that is 2 ^ 64: no memory holds so many advances.
+    pub fn next_phase(&self, c: u32) -> Result<usize, AllocError>
+        ensures { IfOk result (λ n. n ≡ number_at self.now.phases c + 1) }
+    {
+        sum(number_at(&self.phases, c as usize), 1)
+    }
+
+    /// Those for whom an advance of clock c waits. Err where memory was refused.
+    pub fn awaited(&self, alloc: Global, c: u32) -> Result<Vec<Arrival>, AllocError>
+        ensures { IfOk result (λ v. v.items ≡ flat_map (if_awaited c) self.now.arrivals) }
+    {
+        awaited(alloc, c, &self.arrivals)
     }
 
     /// The line of an advance of clock c, if it is shown.
@@ -176,8 +190,8 @@ impl Coming {
         if self.advances >= most_phases() {
             return Ok(Vec::new(alloc));
         }
-        let phase = sum(number_at(&self.phases, c as usize), 1)?;
-        let list = awaited(alloc, c, &self.arrivals)?;
+        let phase = self.next_phase(c)?;
+        let list = self.awaited(alloc, c)?;
         phase_line(alloc, places, c, phase, &list)
     }
 

@@ -22,8 +22,8 @@ pub struct SpanReport {
     pub free: bool,
 }
 
-/// Whether the run has no race.
-fn is_free(alloc: Global, ended: &Ended<'_>) -> Result<bool, AllocError>
+/// Whether the run has no race. Err where memory was refused.
+pub fn is_free(alloc: Global, ended: &Ended<'_>) -> Result<bool, AllocError>
     ensures { IfOk result (λ free. free ≡ is_race_free
         ended.now.module.now ended.now.core.world.arguments ended.now.log.items) }
 {
@@ -31,8 +31,8 @@ fn is_free(alloc: Global, ended: &Ended<'_>) -> Result<bool, AllocError>
     Ok(races.free)
 }
 
-/// The report on a run.
-fn span(alloc: Global, places: &Places<'_>, ended: &Ended<'_>) -> Result<SpanReport, AllocError>
+/// The report on a run, with these places. Err where memory was refused.
+pub fn span(alloc: Global, places: &Places<'_>, ended: &Ended<'_>) -> Result<SpanReport, AllocError>
     ensures text { IfOk result (λ r. r.text.items ≡ span_text places.now
         ended.now.module.now ended.now.core.world.arguments ended.now.log.items) }
     ensures free { IfOk result (λ r. r.free ≡ is_race_free

@@ -31,8 +31,8 @@ fn work_with(deed: &Deed, n: usize) -> Result<usize, AllocError>
     Ok(n)
 }
 
-/// How many steps there are.
-fn work_of(deeds: &[Deed]) -> Result<usize, AllocError>
+/// How many steps there are. Err where there are 2 ^ 64 or more: no memory holds so many.
+pub fn work_of(deeds: &[Deed]) -> Result<usize, AllocError>
     ensures { IfOk result (λ n. n ≡ work_of deeds.now) }
 {
     let mut work = 0;

@@ -99,8 +99,8 @@ fn note_awaited(
     Ok(())
 }
 
-/// Whom each activity awaits: each living activity is looked at once, with those above it.
-pub(crate) fn awaited(alloc: Global, core: &Core<'_>) -> Result<Vec<Excerpt>, AllocError>
+/// Whom each activity awaits: each living activity is looked at once, with those above it. Err where memory was refused.
+pub fn all_awaited(alloc: Global, core: &Core<'_>) -> Result<Vec<Excerpt>, AllocError>
     ensures { IfOk result (λ v. AreAwaited core.now.world
         (length core.now.world.activities) v.items) }
 {

@@ -22,7 +22,7 @@ pub enum Condition {
 }
 
 /// What the activity of this number does.
-pub(crate) fn condition_of(core: &Core<'_>, act: Act) -> Condition
+pub fn condition_of(core: &Core<'_>, act: Act) -> Condition
     ensures { result ≡ condition_of core.now.module_run core.now.world act }
 {
     if !core.is_living(act) {

@@ -10,7 +10,7 @@ use std::marker::Model;
 
 /// The first eight of some activities, and how many there are.
 #[derive(Drop)]
-pub(crate) struct Excerpt {
+pub struct Excerpt {
     first: Vec<u32>,
     count: usize,
 }
@@ -65,6 +65,20 @@ impl Excerpt {
         push_first(&mut self.first, self.count, act)?;
         self.count += 1;
         Ok(())
+    }
+
+    /// The first eight.
+    pub fn first(&self) -> &[u32]
+        ensures { result.now ≡ self.now.first }
+    {
+        &self.first
+    }
+
+    /// How many there are.
+    pub fn count(&self) -> usize
+        ensures { result ≡ self.now.count }
+    {
+        self.count
     }
 
     /// Adds it in words: the first eight, and how many more.

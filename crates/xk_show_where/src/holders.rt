@@ -63,9 +63,9 @@ fn is_pending(standing: Standing) -> bool
     matches!(standing, Standing::Open | Standing::Ahead)
 }
 
-/// Who holds a clock back.
+/// Who holds a clock back. Err where memory was refused.
 #[tactic(auto, using(crate::proofs::ExcerptLemmas::excerpt_next, crate::proofs::ExcerptLemmas::few_enough))]
-fn holders_of(alloc: Global, core: &Core<'_>, clock: ClockId) -> Result<Excerpt, AllocError>
+pub fn holders_of(alloc: Global, core: &Core<'_>, clock: ClockId) -> Result<Excerpt, AllocError>
     requires { clock < length core.now.world.clocks }
     ensures { IfOk result (λ e. e ≡ excerpt_of (holders_of core.now.world clock)) }
 {

@@ -13,7 +13,10 @@ mod standings;
 mod texts;
 mod waits;
 
-pub use condition::Condition;
+pub use awaited::all_awaited;
+pub use condition::{Condition, condition_of};
+pub use excerpts::Excerpt;
+pub use holders::holders_of;
 pub use named::{named_standings_text, named_where};
-pub use progress::Stop;
+pub use progress::{Progress, Stop, take_steps};
 pub use standings::{Whereabouts, module_where, standings_text};

@@ -25,14 +25,16 @@ pub struct Stop {
 
 /// Where the steps of a log lead, as far as they can be taken, and the first that can't.
 #[derive(Drop)]
-pub(crate) struct Progress<'m> {
+pub struct Progress<'m> {
+    /// Where they lead.
     pub core: Core<'m>,
+    /// The first step that can't be taken, if there is one.
     pub stop: Option<Stop>,
 }
 
 /// Takes the steps of a log, main being given as many numbers as it takes, up to the first that can't be taken. Err where memory was
 /// refused.
-pub(crate) fn take_steps<'m>(
+pub fn take_steps<'m>(
     alloc: Global,
     verified: &'m Verified,
     arguments: &[i64],

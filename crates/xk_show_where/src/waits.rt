@@ -4,7 +4,7 @@ ghost use Rattle.std.specs.Prelude.{◌≡◌, ◌<◌, ◌++◌, codes, length,
 ghost use Rattle.xk_show_where.specs.Awaited.{AreAwaited, AreWaitsOf};
 ghost use Rattle.xk_show_where.specs.Where.{awaited_by, holders_words, listed};
 
-use crate::awaited::awaited;
+use crate::awaited::all_awaited;
 use crate::condition::Condition;
 use crate::excerpts::Excerpt;
 use crate::holders::{Piece, held_pieces, push_piece};
@@ -56,7 +56,7 @@ impl Waits {
         ensures { IfOk result (λ w. AreWaitsOf core.now.world w) }
     {
         let held = held_pieces(alloc, core)?;
-        let awaited = awaited(alloc, core)?;
+        let awaited = all_awaited(alloc, core)?;
         Ok(Waits { held, awaited })
     }
 

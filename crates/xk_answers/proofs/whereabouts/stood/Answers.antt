@@ -10,7 +10,7 @@ stood_by-requires-clause-taken g c = rw c.in_ok-verified.ensures.accepted.0 c.in
 pub returns-clause-done : goal.returns-clause-done
 returns-clause-done g c = λ form file bytes given.
     let known = g.L.Source.remaining c.args.log_in.now in
-    subst (λ m. IfOk c.stood_by.result (λ d. OfSome known (λ logged. IsText (IsTelling (Where c.args.at) form file bytes m c.args.arguments.now logged) d)))
+    subst (λ m. IfOk c.stood_by.result (λ d. OfSome known (λ logged. IsText (IsTelling (Where c.args.json c.args.at) form file bytes m c.args.arguments.now logged) d)))
     c.in_ok-verified.ensures.accepted.0 (c.stood_by.ensures.done form file bytes given)
 
 pub returns-clause-fault : goal.returns-clause-fault

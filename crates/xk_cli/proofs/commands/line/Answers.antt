@@ -1,6 +1,6 @@
 use Rattle.std.proofs.lemmas.Result.{IfOk-weaker}
 use Rattle.std.specs.Prelude.{codes}
-use Rattle.xk_cli.specs.CommandLine.{check_line, compile_line, events_line, explain_line, lanes_line, listing_line, on_run, outcomes_line, page_line, program, races_line, run_line, where_line, why_line}
+use Rattle.xk_cli.specs.CommandLine.{check_line, compile_line, events_line, explain_line, lanes_line, listing_line, on_run, outcomes_line, page_line, program, races_line, run_line, span_line, where_line, why_line}
 use Rattle.xk_cli.proofs.CommandLineLemmas.{names_of}
 use Rattle.xk_cli.proofs.commands.line.Goals as goal
 
@@ -20,6 +20,6 @@ returns c =
     let eleven = c.add-line-11.ensures _ lanes_line ten c.lanes_line.ensures.shape c.lanes_line.ensures.local in
     let twelve = c.add-line-12.ensures _ page_line eleven c.page_line.ensures.shape c.page_line.ensures.local in
     let thirteen = c.add-line-13.ensures _ where_line twelve c.where_line.ensures.shape c.where_line.ensures.local in
-    let fourteen = c.add-line-14.ensures _ (on_run (codes "span")) thirteen c.span_line.ensures.shape c.span_line.ensures.local in
+    let fourteen = c.add-line-14.ensures _ span_line thirteen c.span_line.ensures.shape c.span_line.ensures.local in
     IfOk-weaker c.add.result _ _ (λ r h. (run.0, run.1, h))
     (c.add.ensures _ why_line fourteen c.why_line.ensures.shape c.why_line.ensures.local)

@@ -9,6 +9,7 @@ returns c = record {
   exact = c.in_ok-counted.ensures.exact;
   lone = c.in_ok-counted.ensures.lone;
   far = c.in_ok-counted.ensures.far;
+  cut = c.in_ok-counted.ensures.cut;
   text_is = ap (λ v. v.items) c.into_bytes.ensures.value ∙ c.in_ok-line.ensures;
   whole_is = refl;
   log_is = refl;

@@ -21,6 +21,7 @@ returns c =
         lone = is.lone;
         plain = is.plain;
         far = record { entries = found.entries; kept = is.kept; met = is.limit; few = is.most };
+        order = is.order;
         text_is = refl;
         whole_is = refl;
         log_is = c.in_ok-log.ensures ∙ ap (kept_log true c.args.pick) c.deref.ensures.value;

@@ -19,6 +19,7 @@ returns c =
       lone = c.in_ok-found.ensures.lone;
       plain = c.in_ok-found.ensures.plain;
       far = record { entries = c.in_ok-found.found.entries; kept = c.in_ok-found.ensures.kept; met = c.in_ok-found.ensures.limit; few = c.in_ok-found.ensures.most };
+      order = c.in_ok-found.ensures.order;
       text_is = c.in_ok-text.ensures ∙ ap (λ list. outcomes_text list complete) c.deref.ensures.value;
       whole_is = c.is_whole-whole.ensures ∙ ap (λ there. complete && not (c.args.keeps_log && not there)) (c.is_some.ensures ∙ made_there (λ es. es.items) c.in_ok-log.log ∙ ap is_some log);
       log_is = log;

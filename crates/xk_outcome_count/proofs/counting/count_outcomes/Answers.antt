@@ -1,5 +1,6 @@
-use Rattle.std.proofs.Common.{◌≡◌, Bool, false, true, subst, sym}
+use Rattle.std.proofs.Common.{◌≡◌, ◌∙◌, Bool, false, true, true≢false, subst, sym}
 use Rattle.std.specs.Prelude.{IfOk}
+use Rattle.std.proofs.lemmas.Result.{IfOk-weaker}
 use Rattle.xk_outcomes.specs.LoneOutcomes.{IsOneOfManyAs}
 use Rattle.xk_outcome_count.specs.Counts.{AreAsMany, AreAtLeast, GoesAsFar}
 use Rattle.xk_outcome_count.proofs.counting.count_outcomes.Goals as goal
@@ -51,3 +52,10 @@ returns-clause-far c =
     let m = c.args.verified.now in
     let args = c.args.arguments.now in
     subst (λ (sets : Bool). IfOk c.count_lists.result (λ r. r.complete ≡ false → GoesAsFar sets m args c.args.limit r.count)) (sym c.if-sets.false) c.count_lists.ensures.far
+
+pub returns-then-sets-clause-cut : goal.returns-then-sets-clause-cut
+returns-then-sets-clause-cut c =
+    IfOk-weaker c.count_sets.result _ _ (λ r least less lists. absurd (true≢false (sym c.if-sets.true ∙ lists))) c.count_sets.ensures.least
+
+pub returns-clause-cut : goal.returns-clause-cut
+returns-clause-cut c = IfOk-weaker c.count_lists.result _ _ (λ r cut less lists. cut less) c.count_lists.ensures.cut

@@ -1,9 +1,10 @@
-use Rattle.std.proofs.Common.{◌≡◌, ◌<◌, true, length, arith, subst, sym}
+use Rattle.std.proofs.Common.{◌≡◌, ◌<◌, ◌⊎◌, true, false, length, arith, subst, sym}
 use Rattle.std.specs.Prelude.{IfOk}
 use Rattle.std.proofs.lemmas.List.{length-map}
 use Rattle.std.proofs.lemmas.Option.{slice_get_within}
 use Rattle.xk_types.specs.Schedule.{all_ended}
-use Rattle.xk_readings.specs.Counts.{AreAsMany, AreAtLeast}
+use Rattle.xk_readings.specs.Beginnings.{HasMoreSets}
+use Rattle.xk_readings.specs.Counts.{AreAsMany, AreAtLeast, most_counted}
 use Rattle.xk_readings.specs.Graphs.{IsWithin, graph}
 use Rattle.xk_readings.specs.Readings.{IsLongest}
 use Rattle.xk_outcomes.specs.Alikeness.{live_by}
@@ -49,3 +50,12 @@ returns-clause-exact c =
     subst (λ l. IfOk c.how_many.result (λ r. r.exact ≡ true → AreAsMany (graph l (ends all)) r.count)) c.deref.ensures.value
     (subst (λ over. IfOk c.how_many.result (λ r. r.exact ≡ true → AreAsMany (graph c.deref.result.now over) r.count)) c.ends.ensures
     c.how_many.ensures.exact)
+
+pub returns-clause-limit : goal.returns-clause-limit
+returns-clause-limit c =
+    let all = c.args.explored.now.found.all in
+    let limit = c.args.limit in
+    subst (λ l. IfOk c.how_many.result (λ r. r.exact ≡ false → HasMoreSets (graph l (ends all)) limit ⊎ (r.count ≡ most_counted)))
+    c.deref.ensures.value
+    (subst (λ over. IfOk c.how_many.result (λ r. r.exact ≡ false
+    → HasMoreSets (graph c.deref.result.now over) limit ⊎ (r.count ≡ most_counted))) c.ends.ensures c.how_many.ensures.limit)

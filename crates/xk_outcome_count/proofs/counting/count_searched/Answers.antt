@@ -1,4 +1,4 @@
-use Rattle.std.proofs.Common.{◌≡◌, ◌∙◌, Some, false, sym, subst, slice_get, true≢false}
+use Rattle.std.proofs.Common.{◌≡◌, ◌∙◌, inl, Some, false, sym, subst, slice_get, true≢false}
 use Rattle.xk_core.specs.Core.{CoreValue, opening_core}
 use Rattle.xk_outcomes.specs.Alikeness.{live_by}
 use Rattle.xk_outcomes.specs.Found.{first_found}
@@ -6,7 +6,9 @@ use Rattle.xk_outcomes.specs.Links.{AreLinked}
 use Rattle.xk_outcomes.specs.Listing.{ArePlayed}
 use Rattle.xk_outcomes.proofs.ListingLemmas.{printed_kept, printed_shown}
 use Rattle.xk_outcomes.proofs.PlainRunLemmas.{printed_plain}
-use Rattle.xk_outcome_count.proofs.CountLemmas.{least_of, listed_exact, read_exact, read_least}
+use Rattle.xk_outcome_count.proofs.CountLemmas.{cut_by, least_of, listed_exact, read_exact, read_least}
+use Rattle.xk_outcome_count.proofs.counting.count_searched.Goals.{else-explored-via-then-explored+else-read}
+use Rattle.xk_outcome_count.proofs.counting.count_searched.Goals.{else-explored-via-else-explored}
 use Rattle.xk_outcome_count.proofs.counting.count_searched.Goals as goal
 
 pub count_readings-requires-clause-begins : goal.count_readings-requires-clause-begins
@@ -79,3 +81,17 @@ returns-clause-far c less =
       };
       many = c.count_of.ensures.least;
     }
+
+pub returns-clause-cut : goal.returns-clause-cut
+returns-clause-cut c less =
+    let m = c.args.verified.now in
+    let args = c.args.arguments.now in
+    let x = c.in_ok-explored.explored in
+    let is = c.in_ok-explored.ensures in
+    let read = c.in_ok-read.read in
+    elim c.else-explored.branch [
+      | else-explored-via-then-explored+else-read w ↦
+          cut_by m args c.args.limit.entries read.count c.count_of.result.count x is (c.in_ok-read.ensures.limit w.if-read.false)
+          (c.count_of.ensures.read (sym c.count_of.ensures.complete ∙ less))
+      | else-explored-via-else-explored w ↦ record { explored = x; is = is; cut = inl (is.beyond w.if-explored.false) }
+    ]

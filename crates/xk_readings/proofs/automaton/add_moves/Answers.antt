@@ -5,10 +5,12 @@ use Rattle.std.specs.Int.{w64}
 use Rattle.std.proofs.lemmas.Int.{to_z-of_z}
 use Rattle.std.proofs.lemmas.Option.{slice_get_within}
 use Rattle.xk_readings.specs.Automata.{HasMoved}
+use Rattle.xk_readings.specs.Beginnings.{IsPrintedFrom}
 use Rattle.xk_readings.specs.NodeSets.{HasNode}
 use Rattle.xk_readings.specs.Sets.{AreDifferent, Has}
 use Rattle.xk_readings.proofs.AutomatonLemmas.{AreMovesBy, fresh_at, longer_kept, moves_all, moves_by_none, moves_more}
 use Rattle.xk_readings.proofs.ListLemmas.{read}
+use Rattle.xk_readings.proofs.SetLemmas.{has_place}
 use Rattle.xk_readings.proofs.automaton.add_moves.Goals as goal
 
 pub loop-number-init : goal.loop-number-init
@@ -19,6 +21,20 @@ loop-number-init c = record {
   moves = moves_by_none c.args.graph.now c.args.automaton.now.states c.args.automaton.now.moves.items c.args.from c.in_ok-nodes.nodes.items
       c.requires.moves;
 }
+
+pub add_move-requires-clause-printed : goal.add_move-requires-clause-printed
+add_move-requires-clause-printed c =
+    let g = c.args.graph.now in
+    let nodes = c.in_ok-nodes.nodes.items in
+    let numbers = c.deref-number-items.result.now in
+    let at = c.loop-number.number-index in
+    let x = get_or numbers at (pos 0) in
+    let there = read numbers at (pos 0) c.loop-number-test.true in
+    let fits : SFits w64 x = search rules in
+    let has = subst (λ (l : List ℤ). Has l x) c.deref-number-items.ensures.value (has_place numbers at x there) in
+    subst (λ (l : List ℕ). IsPrintedFrom g l (to_z w64 (of_z w64 x))) (sym c.deref-in-loop-number.ensures.value)
+    (subst (IsPrintedFrom g nodes) (sym (to_z-of_z w64 x fits))
+    (subst (λ (l : List ℕ). IsPrintedFrom g l x) c.deref.ensures.value (c.in_ok-numbers.ensures.only x has)))
 
 pub returns-in_err-add_move-clause-longer : goal.returns-in_err-add_move-clause-longer
 returns-in_err-add_move-clause-longer c =

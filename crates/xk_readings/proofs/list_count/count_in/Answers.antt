@@ -1,9 +1,10 @@
-use Rattle.std.proofs.Common.{◌≡◌, ◌∙◌, ◌+◌, Bool, List, length, subst, sym, true≢false}
+use Rattle.std.proofs.Common.{◌≡◌, ◌∙◌, ◌+◌, inl, inr, Bool, List, length, subst, sym, true≢false}
 use Rattle.std.proofs.lemmas.Bool.Decides.{Decides-ltb}
 use Rattle.xk_readings.specs.declared.edge.Edge.{Edge}
 use Rattle.xk_readings.specs.Counts.{most_counted}
 use Rattle.xk_readings.specs.Paths.{AreBetween, counted, lists_below}
-use Rattle.xk_readings.proofs.HowManyLemmas.{as_many, at_least, between}
+use Rattle.xk_readings.proofs.BeginningLemmas.{more_sets}
+use Rattle.xk_readings.proofs.HowManyLemmas.{as_many, at_least, between, most_is}
 use Rattle.xk_readings.proofs.list_count.count_in.Goals.{then-complete, else-complete}
 use Rattle.xk_readings.proofs.list_count.count_in.Goals as goal
 
@@ -41,4 +42,16 @@ returns-clause-exact c exact =
           (subst (λ (l : List Bool). c.in_ok-count.count ≡ counted (length (lists_below c.deref.result.now l (c.args.longest + 1)))) c.deref-2.ensures.value
           c.in_ok-count.ensures)) less (m.2 w.if-complete.true) c.requires.longest
       | else-complete w ↦ absurd (true≢false (sym exact ∙ w.result-is ∙ w.if-complete.false))
+    ]
+
+pub returns-clause-limit : goal.returns-clause-limit
+returns-clause-limit c cut =
+    let a = c.in_ok-automaton.automaton in
+    elim c.if-complete.branch [
+      | then-complete w ↦
+          inr (most_is _ c.in_ok-count.count c.in_ok-count.ensures
+          (λ less. true≢false (sym ((Decides-ltb c.in_ok-count.count most_counted).1 less) ∙ sym w.result-is ∙ cut)))
+      | else-complete w ↦
+          inl (more_sets c.args.graph.now a.states c.args.limit c.requires.trim c.requires.readable c.in_ok-automaton.ensures.states
+          c.in_ok-automaton.ensures.once (c.in_ok-automaton.ensures.limit w.if-complete.false))
     ]

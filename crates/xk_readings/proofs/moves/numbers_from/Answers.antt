@@ -1,9 +1,10 @@
-use Rattle.std.proofs.Common.{◌≡◌, ℤ, refl, Some, arith}
+use Rattle.std.proofs.Common.{◌≡◌, ℤ, get_or, refl, Some, arith}
 use Rattle.std.proofs.lemmas.Option.{slice_get_within}
 use Rattle.xk_readings.specs.declared.edge.Edge.{Edge}
 use Rattle.xk_readings.specs.Graphs.{HasEdge}
 use Rattle.xk_readings.specs.Sets.{Has}
-use Rattle.xk_readings.proofs.MoveLemmas.{node_later}
+use Rattle.xk_readings.proofs.ListLemmas.{read}
+use Rattle.xk_readings.proofs.MoveLemmas.{node_later, printed_from_more}
 use Rattle.xk_readings.proofs.moves.numbers_from.Goals as goal
 
 pub loop-node-preserved : goal.loop-node-preserved
@@ -18,6 +19,8 @@ loop-node-preserved c =
           (λ m. (e : Edge) (x : ℤ) → HasEdge c.args.graph.now e → e.from ≡ m → e.printed ≡ Some x → Has new x) c.loop-node-test.true
           c.in_ok-add_numbers.ensures.there
           (λ i m before h e x has begins prints. c.add_numbers.ensures.kept x (is.there i m e x before h has begins prints)) j k less h e x;
+      only = printed_from_more c.args.graph.now nodes at (get_or nodes at 0) c.loop-node.numbers.items new
+          (read nodes at 0 c.loop-node-test.true) is.only c.add_numbers.ensures.only;
     }
 
 pub returns-clause-there : goal.returns-clause-there

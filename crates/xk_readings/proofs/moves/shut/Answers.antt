@@ -1,4 +1,5 @@
 use Rattle.std.proofs.Common.{◌∙◌, None, arith}
+use Rattle.xk_readings.proofs.BeginningLemmas.{silent_read_to}
 use Rattle.xk_readings.proofs.MoveLemmas.{gone_more, reads_on, reads_silent, shut_all, targets_within}
 use Rattle.xk_readings.proofs.moves.shut.Goals as goal
 
@@ -13,6 +14,11 @@ returns-in_err-add_targets-clause-reads c =
     (reads_silent c.args.graph.now c.node.result c.loop-at.set.nodes c.add_targets.new.set.nodes (c.loop-at.at, c.node.ensures)
     c.add_targets.ensures.each)
 
+pub returns-in_err-add_targets-clause-read_to : goal.returns-in_err-add_targets-clause-read_to
+returns-in_err-add_targets-clause-read_to c numbers are =
+    silent_read_to c.args.graph.now c.node.result c.loop-at.set.nodes c.add_targets.new.set.nodes (c.loop-at.at, c.node.ensures)
+    c.add_targets.ensures.each numbers (c.loop-at.invariant.read_to numbers are)
+
 pub loop-at-preserved : goal.loop-at-preserved
 loop-at-preserved c =
     let g = c.args.graph.now in
@@ -24,6 +30,8 @@ loop-at-preserved c =
       nodes = targets_within g c.node.result None old new c.requires.within c.loop-at.invariant.nodes c.add_targets.ensures.each;
       reads = reads_on g c.args.set.now.nodes old new c.loop-at.invariant.reads
           (reads_silent g c.node.result old new (c.loop-at.at, c.node.ensures) c.add_targets.ensures.each);
+      read_to = λ numbers are. silent_read_to g c.node.result old new (c.loop-at.at, c.node.ensures) c.add_targets.ensures.each numbers
+          (c.loop-at.invariant.read_to numbers are);
       shut = gone_more g old new c.loop-at.at c.node.result c.node.ensures c.add_targets.ensures.kept c.in_ok-add_targets.ensures.there
           c.loop-at.invariant.shut;
     }

@@ -1,5 +1,6 @@
-use Rattle.std.proofs.Common.{◌≡◌, ℕ, ◌-◌, ◌<◌, None, slice_get, Some}
+use Rattle.std.proofs.Common.{◌≡◌, ℕ, ℤ, ◌-◌, ◌<◌, List, None, slice_get, Some}
 use Rattle.xk_readings.specs.Automata.{AreNodes, HasTargets, ReadsNoMore}
+use Rattle.xk_readings.specs.Beginnings.{AreReadTo}
 use Rattle.xk_readings.specs.NodeSets.{KeepsNodes}
 use Rattle.xk_readings.proofs.moves.shut.Given as goal
 
@@ -10,6 +11,7 @@ invariant-loop-at l = record {
   kept : KeepsNodes l.fn.set.nodes l.set.nodes;
   nodes : AreNodes l.graph l.set.nodes;
   reads : ReadsNoMore l.graph l.set.nodes l.fn.set.nodes;
+  read_to : (numbers : List ℤ) → AreReadTo l.graph numbers l.fn.set.nodes → AreReadTo l.graph numbers l.set.nodes;
   shut : (i k : ℕ) → i < l.at → slice_get l.set.nodes i ≡ Some k → HasTargets l.graph k None l.set.nodes;
 }
 

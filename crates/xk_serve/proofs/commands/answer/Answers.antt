@@ -93,14 +93,13 @@ returns-in-Lanes-clause-fault g c =
 
 pub returns-in-Page-clause-done : goal.returns-in-Page-clause-done
 returns-in-Page-clause-done g c =
-    let what = Draw (picture.Page c.window_given.result) in
-    let is = ap doing_of c.in-Page.is ∙ ap (λ window. Draw (picture.Page window)) (sym c.window_given.ensures) in
-    done_of_run (task_of c.args.job.now) c.args.bytes.now (g.L.Source.remaining c.args.log_in.now) _ what c.as_slice-arguments.result.now c.drawn-in-Page.result is c.as_slice-arguments.ensures.value refl c.in_ok-program.ensures.module (c.drawn-in-Page.ensures.done c.args.job.now.form c.args.bytes.now (c.in_ok-program.ensures.from.0, λ _. c.in_ok-program.ensures.from.1 (c.shows_origins.ensures ∙ ap shows_origins c.in-Page.is)))
+    let is = ap doing_of c.in-Page.is ∙ ap (λ p. Draw p) (sym c.page_given-page.ensures) in
+    done_of_run (task_of c.args.job.now) c.args.bytes.now (g.L.Source.remaining c.args.log_in.now) _ (Draw c.page_given-page.result) c.as_slice-arguments.result.now c.drawn-in-Page.result is c.as_slice-arguments.ensures.value refl c.in_ok-program.ensures.module (c.drawn-in-Page.ensures.done c.args.job.now.form c.args.bytes.now (c.in_ok-program.ensures.from.0, λ _. c.in_ok-program.ensures.from.1 (c.shows_origins.ensures ∙ ap shows_origins c.in-Page.is)))
 
 pub returns-in-Page-clause-fault : goal.returns-in-Page-clause-fault
 returns-in-Page-clause-fault g c =
-    let is = ap doing_of c.in-Page.is ∙ ap (λ window. Draw (picture.Page window)) (sym c.window_given.ensures) in
-    against_picture (task_of c.args.job.now) c.args.bytes.now (g.L.Source.remaining c.args.log_in.now) _ _ _ (picture.Page c.window_given.result) c.as_slice-arguments.result.now c.drawn-in-Page.result is c.as_slice-arguments.ensures.value c.in_ok-program.ensures.module c.drawn-in-Page.ensures.fault c.drawn-in-Page.ensures.stands
+    let is = ap doing_of c.in-Page.is ∙ ap (λ p. Draw p) (sym c.page_given-page.ensures) in
+    against_picture (task_of c.args.job.now) c.args.bytes.now (g.L.Source.remaining c.args.log_in.now) _ _ _ c.page_given-page.result c.as_slice-arguments.result.now c.drawn-in-Page.result is c.as_slice-arguments.ensures.value c.in_ok-program.ensures.module c.drawn-in-Page.ensures.fault c.drawn-in-Page.ensures.stands
 
 pub returns-in-OutcomePage-clause-done : goal.returns-in-OutcomePage-clause-done
 returns-in-OutcomePage-clause-done g c =
@@ -138,7 +137,7 @@ returns-in-Rounds-clause-fault g c =
 pub returns-in-Span-clause-done : goal.returns-in-Span-clause-done
 returns-in-Span-clause-done g c =
     done_of_run (task_of c.args.job.now) c.args.bytes.now (g.L.Source.remaining c.args.log_in.now) _
-    (Draw picture.Span) c.as_slice-arguments.result.now c.drawn-in-Span.result (ap doing_of c.in-Span.is) c.as_slice-arguments.ensures.value
+    (Draw (picture.Span false)) c.as_slice-arguments.result.now c.drawn-in-Span.result (ap doing_of c.in-Span.is) c.as_slice-arguments.ensures.value
     refl
     c.in_ok-program.ensures.module (c.drawn-in-Span.ensures.done c.args.job.now.form c.args.bytes.now
     (c.in_ok-program.ensures.from.0, λ _. c.in_ok-program.ensures.from.1 (c.shows_origins.ensures ∙ ap shows_origins c.in-Span.is)))
@@ -146,7 +145,7 @@ returns-in-Span-clause-done g c =
 pub returns-in-Span-clause-fault : goal.returns-in-Span-clause-fault
 returns-in-Span-clause-fault g c =
     against_picture (task_of c.args.job.now) c.args.bytes.now (g.L.Source.remaining c.args.log_in.now) _ _ _
-    picture.Span c.as_slice-arguments.result.now c.drawn-in-Span.result (ap doing_of c.in-Span.is) c.as_slice-arguments.ensures.value
+    (picture.Span false) c.as_slice-arguments.result.now c.drawn-in-Span.result (ap doing_of c.in-Span.is) c.as_slice-arguments.ensures.value
     c.in_ok-program.ensures.module c.drawn-in-Span.ensures.fault c.drawn-in-Span.ensures.stands
 
 pub returns-in-Why-clause-done : goal.returns-in-Why-clause-done
@@ -167,11 +166,11 @@ returns-in-Why-clause-fault g c =
 
 pub returns-in-Where-clause-done : goal.returns-in-Where-clause-done
 returns-in-Where-clause-done g c =
-    done_of_run (task_of c.args.job.now) c.args.bytes.now (g.L.Source.remaining c.args.log_in.now) _ (Where c.in-Where.at) c.as_slice-arguments.result.now c.stood.result (ap doing_of c.in-Where.is) c.as_slice-arguments.ensures.value refl c.in_ok-program.ensures.module (c.stood.ensures.done c.args.job.now.form c.args.job.now.file.now c.args.bytes.now (c.in_ok-program.ensures.from.0, λ _. c.in_ok-program.ensures.from.1 (c.shows_origins.ensures ∙ ap shows_origins c.in-Where.is)))
+    done_of_run (task_of c.args.job.now) c.args.bytes.now (g.L.Source.remaining c.args.log_in.now) _ (Where false c.in-Where.at) c.as_slice-arguments.result.now c.stood.result (ap doing_of c.in-Where.is) c.as_slice-arguments.ensures.value refl c.in_ok-program.ensures.module (c.stood.ensures.done c.args.job.now.form c.args.job.now.file.now c.args.bytes.now (c.in_ok-program.ensures.from.0, λ _. c.in_ok-program.ensures.from.1 (c.shows_origins.ensures ∙ ap shows_origins c.in-Where.is)))
 
 pub returns-in-Where-clause-fault : goal.returns-in-Where-clause-fault
 returns-in-Where-clause-fault g c =
-    against_text (task_of c.args.job.now) c.args.bytes.now (g.L.Source.remaining c.args.log_in.now) _ _ _ (Where c.in-Where.at) c.as_slice-arguments.result.now c.stood.result (ap doing_of c.in-Where.is) c.as_slice-arguments.ensures.value refl c.in_ok-program.ensures.module c.stood.ensures.fault
+    against_text (task_of c.args.job.now) c.args.bytes.now (g.L.Source.remaining c.args.log_in.now) _ _ _ (Where false c.in-Where.at) c.as_slice-arguments.result.now c.stood.result (ap doing_of c.in-Where.is) c.as_slice-arguments.ensures.value refl c.in_ok-program.ensures.module c.stood.ensures.fault
 
 pub returns-then-given-clause-done : goal.returns-then-given-clause-done
 returns-then-given-clause-done g c =

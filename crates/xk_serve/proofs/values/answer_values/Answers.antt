@@ -1,10 +1,10 @@
 use Rattle.std.proofs.Common.{◌∙◌, true, refl, ap, sym}
 use Rattle.std.specs.Prelude.{Bool, unwrap_or}
 use Rattle.xk_answers.specs.declared.picture.Picture.TheVariants as picture
-use Rattle.xk_answers.specs.Results.{Doing, Draw, ExpectedShown, Json, OutcomesShown, Races, RunShown, way_given}
+use Rattle.xk_answers.specs.Results.{Doing, Draw, ExpectedShown, Json, OutcomesShown, Races, RunShown, Where, way_given}
 use Rattle.xk_jobs.specs.CommandAnswers.{have_places}
 use Rattle.xk_serve.specs.Answer.{races_by, task_of, values_doing}
-use Rattle.xk_serve.proofs.TaskLemmas.{against_list, against_picture, against_run_of, done_of_any, done_of_list, done_of_run, done_of_told}
+use Rattle.xk_serve.proofs.TaskLemmas.{against_list, against_picture, against_run_of, against_text, done_of_any, done_of_list, done_of_run, done_of_told}
 use Rattle.xk_serve.proofs.values.answer_values.Goals as goal
 
 pub returns-in-Run-clause-done : goal.returns-in-Run-clause-done
@@ -62,6 +62,34 @@ returns-else-given-clause-fault g c =
     let is = c.requires.doing ∙ ap values_doing c.in-Races.is ∙ ap (races_by true) (sym c.is_some-given.ensures ∙ c.if-given.false) in
     against_run_of (task_of c.args.job.now) c.args.bytes.now (g.L.Source.remaining c.args.log_in.now) _ _ (Races true)
     c.as_slice-arguments.result.now c.raced.result is c.as_slice-arguments.ensures.value refl c.requires.module c.raced.ensures.fault
+
+pub returns-in-Where-clause-done : goal.returns-in-Where-clause-done
+returns-in-Where-clause-done g c =
+    done_of_run (task_of c.args.job.now) c.args.bytes.now (g.L.Source.remaining c.args.log_in.now) _ (Where true c.in-Where.at)
+    c.as_slice-arguments.result.now c.stood.result (c.requires.doing ∙ ap values_doing c.in-Where.is) c.as_slice-arguments.ensures.value
+    refl c.requires.module
+    (c.stood.ensures.done c.args.job.now.form c.args.job.now.file.now c.args.bytes.now
+    (c.requires.from.0, λ _. c.requires.from.1 (ap have_places c.in-Where.is)))
+
+pub returns-in-Where-clause-fault : goal.returns-in-Where-clause-fault
+returns-in-Where-clause-fault g c =
+    against_text (task_of c.args.job.now) c.args.bytes.now (g.L.Source.remaining c.args.log_in.now) _ _ _ (Where true c.in-Where.at)
+    c.as_slice-arguments.result.now c.stood.result (c.requires.doing ∙ ap values_doing c.in-Where.is) c.as_slice-arguments.ensures.value
+    refl c.requires.module c.stood.ensures.fault
+
+pub returns-in-Span-clause-done : goal.returns-in-Span-clause-done
+returns-in-Span-clause-done g c =
+    done_of_run (task_of c.args.job.now) c.args.bytes.now (g.L.Source.remaining c.args.log_in.now) _ (Draw (picture.Span true))
+    c.as_slice-arguments.result.now c.drawn-in-Span.result (c.requires.doing ∙ ap values_doing c.in-Span.is) c.as_slice-arguments.ensures.value
+    refl c.requires.module
+    (c.drawn-in-Span.ensures.done c.args.job.now.form c.args.bytes.now
+    (c.requires.from.0, λ _. c.requires.from.1 (ap have_places c.in-Span.is)))
+
+pub returns-in-Span-clause-fault : goal.returns-in-Span-clause-fault
+returns-in-Span-clause-fault g c =
+    against_picture (task_of c.args.job.now) c.args.bytes.now (g.L.Source.remaining c.args.log_in.now) _ _ _ (picture.Span true)
+    c.as_slice-arguments.result.now c.drawn-in-Span.result (c.requires.doing ∙ ap values_doing c.in-Span.is) c.as_slice-arguments.ensures.value
+    c.requires.module c.drawn-in-Span.ensures.fault c.drawn-in-Span.ensures.stands
 
 pub returns-in-Outcomes-clause-done : goal.returns-in-Outcomes-clause-done
 returns-in-Outcomes-clause-done g c =

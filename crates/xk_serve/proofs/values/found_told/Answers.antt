@@ -24,6 +24,7 @@ returns c =
         all = is.all;
         lone = is.lone;
         plain = is.plain;
+        order = is.order;
         far = record { entries = found.entries; kept = is.kept; met = is.limit; few = is.most };
         text_is = refl;
         whole_is = c.is_whole-whole.ensures

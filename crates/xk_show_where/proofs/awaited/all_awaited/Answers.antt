@@ -1,6 +1,6 @@
 -- One activity after the other is noted.
 use Rattle.xk_show_where.proofs.AwaitedLemmas.{none_noted}
-use Rattle.xk_show_where.proofs.awaited.awaited.Goals as goal
+use Rattle.xk_show_where.proofs.awaited.all_awaited.Goals as goal
 
 pub loop-act-init : goal.loop-act-init
 loop-act-init c =

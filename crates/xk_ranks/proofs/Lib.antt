@@ -1,0 +1,5 @@
+pub mod RankListLemmas
+pub mod RankWorldLemmas
+pub mod RankStepLaw
+pub mod RankLaw
+pub mod Examples

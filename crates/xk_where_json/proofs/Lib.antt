@@ -1,0 +1,4 @@
+mod Examples
+mod ItemLemmas
+mod PlainLemmas
+mod StandingLemmas

@@ -1,0 +1,9 @@
+use Rattle.std.proofs.Common.{◌≡◌, [], ◌∷◌, map}
+use Rattle.serde_json.specs.View.{view}
+use Rattle.xk_show_events.specs.Worlds.{each_below}
+use Rattle.xk_where_json.specs.Standings.{clock_value}
+use Rattle.xk_where_json.proofs.standings.clocks_value.Given as goal
+
+-- the clocks so far were added
+abbrev pub invariant-loop-clock : goal.invariant-loop-clock
+invariant-loop-clock l = map view l.values.items ≡ each_below (λ c. clock_value l.core.world c ∷ []) l.clock
