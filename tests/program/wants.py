@@ -67,12 +67,16 @@ def to_verify(module: modules.Module) -> int:
     return sum(8 * len(unit.code) * max(unit.slots, 4) for unit in module.units)
 
 
+def to_start(found: modules.Accepted) -> int:
+    """What an activity can want."""
+    given = max(unit.params.count("c") for unit in found.module.units)
+    return 210 + 9 * found.bounds.stack + 16 * given
+
+
 def to_run(found: modules.Accepted) -> int:
     """A clock has two numbers and a place in the list of one that is registered on it: who makes it, or who is given it
     at a start."""
-    given = max(unit.params.count("c") for unit in found.module.units)
-    activity = 210 + 9 * found.bounds.stack + 16 * given
-    return found.bounds.activities * activity + 64 * found.bounds.clocks
+    return found.bounds.activities * to_start(found) + 64 * found.bounds.clocks
 
 
 def to_log(entries: int) -> int:
@@ -102,6 +106,11 @@ def to_lanes(steps: int) -> int:
     """Twice the text, of which a row has some 28 bytes here, the lists of the steps that others see and of those that
     are drawn, and what the steps of a source text were about."""
     return (2 * 28 + 128 + 90) * steps
+
+
+def to_search(found: modules.Accepted, worlds: int, steps: int) -> int:
+    """What is known of worlds and of steps from them, those that are looked at, and those that are kept whole."""
+    return 90 * worlds + 48 * steps + 4 * to_run(found) + 100_000 * to_start(found)
 
 
 def to_list(text: str) -> int:
@@ -458,6 +467,19 @@ class Calls:
             yield self.on_log(["lanes", "--path"], name, text, to_lanes(seen) + to_chain(steps))
             yield self.on_log(["page", "--path"], name, text, spanned + to_mark(steps) + to_draw(seen))
 
+    def of_searches(self) -> Iterator[Call]:
+        """Many steps lead from each world to the next; as many worlds are kept whole as there is room for. Somewhat more
+        worlds than a power of two."""
+        for name, writers, turns, worlds in (("three writers", 3, 25, 17_000), ("seven writers", 7, 4, 9_000)):
+            steps = f"for(i in 1..{turns}){{for(j in 1..1100);x=k;}}"
+            text = f"shared x=0;def main(){{finish for(k in 1..{writers})async{{{steps}}}}}"
+            most = to_search(judged(text), worlds + writers, writers * worlds)
+            yield Call(
+                f"outcomes, {name}",
+                ["outcomes", "--limit", worlds, self.file(text)],
+                to_read(text.encode()) + to_run(judged(text)) + most,
+            )
+
     def of_lists(self) -> Iterator[Call]:
         text, path = "def main(){Console.OUT.println(7);}", self.folder / "list"
         # Somewhat more than a power of two bytes, so that half of the room is empty.
@@ -507,6 +529,7 @@ def main() -> int:
             calls.of_pictures,
             calls.of_races,
             calls.of_spans,
+            calls.of_searches,
             calls.of_lists,
         ):
             for call in kind():

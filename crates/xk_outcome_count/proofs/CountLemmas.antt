@@ -155,12 +155,12 @@ module _ (m : ModuleValue) (args : List ℤ) (all : List FoundValue) (links : Li
       let p = played n acts numbers reads in
       let x : FoundValue = through acts (first_found start) in
       let f = found_through start acts (first_found start) (first_is_found start) in (
-        x.schedule,
+        f.0,
         record {
           last = x.core.world;
-          legal = f.legal;
+          legal = f.1.legal;
           over = p.ended;
-          prints = f.prints ∙ p.prints;
+          prints = f.1.prints ∙ p.prints;
         },
       )
 

@@ -7,11 +7,14 @@ use Rattle.std.proofs.lemmas.List.Sums.{fold_push}
 use Rattle.std.proofs.lemmas.Option.{get_or_from_slice_get, slice_get-get_or, none-some, same_Some, slice_get_within}
 use Rattle.xk_types.specs.Schedule.{all_ended}
 use Rattle.xk_core.specs.Core.{CoreValue}
+use Rattle.xk_liveness.specs.Liveness.{IsLiveness}
+use Rattle.xk_outcomes.specs.declared.checkpoint.Checkpoint.{Checkpoint}
 use Rattle.xk_outcomes.specs.declared.entries.Edge.{Edge}
-use Rattle.xk_outcomes.specs.Alikeness.{Alikeness}
+use Rattle.xk_outcomes.specs.Alikeness.{Alikeness, live_by}
 use Rattle.xk_outcomes.specs.Entries.{AreBehind, AreEntries, led_by, with_edge}
 use Rattle.xk_outcomes.specs.Found.{FoundValue, along, first_found, next}
 use Rattle.xk_outcomes.specs.Search.{AreFound, AreSettled, Has, IsFound, IsSettled, found_digest}
+use Rattle.xk_outcomes.proofs.CheckpointLemmas.{checkpoints_first, checkpoints_grown}
 use Rattle.xk_outcomes.proofs.FoundLemmas.{along_push, settled_first, settled_found, settled_next}
 use Rattle.xk_types.proofs.ListLemmas.{each_push}
 use Rattle.xk_readings.proofs.ListLemmas.{place}
@@ -134,6 +137,31 @@ pub new_found : (start : CoreValue) (edges : List Edge) (k a : ℕ) (x new : Fou
     → new ≡ next a x → IsFound start new
 new_found start edges k a x new there is = settled_found start new (subst (IsSettled start) (sym is) (settled_next start x a (all_led start edges k x there)))
 
+-- ---- the first one alone
+
+one_alone : {X : Type 0} (a x : X) (i : ℕ) → slice_get (a ∷ []) i ≡ Some x → i ≡ 0
+one_alone a x zero h = refl
+one_alone a x (suc k) h = absurd (none-some x h)
+
+-- what is put behind none
+pub alone : {X : Type 0} (list old : List X) (x : X) → list ≡ old ++ x ∷ [] → old ≡ [] → list ≡ x ∷ []
+alone list old x more none = more ∙ ap (λ l. l ++ x ∷ []) none
+
+pub entries_first : (start : CoreValue) (like : Alikeness) (edges : List Edge) (digests : List ℕ) (over : List Bool) (checkpoints : List Checkpoint)
+    → start.world.steps ≡ 0 → IsLiveness start.module_run (live_by like) → edges ≡ [] → digests ≡ found_digest like (first_found start) ∷ []
+    → over ≡ all_ended (first_found start).core.world ∷ [] → checkpoints ≡ record { number = 0; found = first_found start } ∷ []
+    → AreEntries start like edges digests over checkpoints
+entries_first start like edges digests over checkpoints root liveness none digest ended kept =
+    subst (λ l. AreEntries start like l digests over checkpoints) (sym none) (record {
+      root = root;
+      liveness = liveness;
+      behind = λ k e at. absurd (none-some e at);
+      digests_are = digest;
+      over_are = ended;
+      checkpoints_are = checkpoints_first (first_found start) checkpoints (record { number = 0; found = first_found start }) kept refl refl;
+      different = λ i j x y hi hj same. one_alone (first_found start) x i hi ∙ sym (one_alone (first_found start) y j hj);
+    })
+
 -- ---- one more
 
 -- what one edge more leads to
@@ -146,11 +174,11 @@ led_push start edges more e x new one there is =
     ∙ ap (λ (y : FoundValue). led_by start edges ++ next e.act y ∷ []) (get_or_from_slice_get (led_by start edges) e.from x (first_found start) there)
     ∙ ap (λ (y : FoundValue). led_by start edges ++ y ∷ []) (sym is)
 
-pub entries_push : (start : CoreValue) (like : Alikeness) (edges more : List Edge) (digests longer : List ℕ) (over still : List Bool) (e : Edge) (x new : FoundValue)
-    → AreEntries start like edges digests over → more ≡ edges ++ e ∷ [] → longer ≡ digests ++ found_digest like new ∷ []
+pub entries_push : (start : CoreValue) (like : Alikeness) (edges more : List Edge) (digests longer : List ℕ) (over still : List Bool) (checkpoints : List Checkpoint)
+    → (e : Edge) (x new : FoundValue) → AreEntries start like edges digests over checkpoints → more ≡ edges ++ e ∷ [] → longer ≡ digests ++ found_digest like new ∷ []
     → still ≡ over ++ all_ended new.core.world ∷ [] → slice_get (led_by start edges) e.from ≡ Some x → new ≡ next e.act x
-    → (Has like (led_by start edges) new.core.world new.printed → ⊥) → AreEntries start like more longer still
-entries_push start like edges more digests longer over still e x new were one digest ended there is fresh =
+    → (Has like (led_by start edges) new.core.world new.printed → ⊥) → AreEntries start like more longer still checkpoints
+entries_push start like edges more digests longer over still checkpoints e x new were one digest ended there is fresh =
     let grown = led_push start edges more e x new one there is in
     record {
       root = were.root;
@@ -158,6 +186,7 @@ entries_push start like edges more digests longer over still e x new were one di
       behind = λ k z at. by k z (place edges e k z (subst (λ (l : List Edge). slice_get l k ≡ Some z) one at));
       digests_are = digests_push like (led_by start edges) (led_by start more) digests longer new grown digest were.digests_are;
       over_are = ends_push (led_by start edges) (led_by start more) over still new grown ended were.over_are;
+      checkpoints_are = checkpoints_grown (led_by start edges) (led_by start more) new checkpoints grown were.checkpoints_are;
       different = different_push like (led_by start edges) (led_by start more) new grown fresh were.different;
     }
   where

@@ -163,8 +163,8 @@ module _ (start : CoreValue) (live : SlotTable) (liveness : IsLiveness start.mod
   pub read_follows : (n : ℕ) (acts : List ℕ) (numbers : List ℤ) → Reads (graph links (ends all)) n 0 acts numbers
       → Follows n (first_found start) (through acts (first_found start)) numbers
   read_follows n acts numbers reads =
-      followed start.module_run live liveness all links linked (λ k x there. (found k x there).module_is) n 0 acts numbers (first_found start) (first_found start) reads first
-      (first_is_found start).module_is refl
+      followed start.module_run live liveness all links linked (λ k x there. (found k x there).1.module_is) n 0 acts numbers (first_found start) (first_found start) reads first
+      (first_is_found start).1.module_is refl
 
   pub longest_read : IsWithinLimits start.module_run → IsAccepted start.module_run → AreArguments start.module_run start.world.arguments
       → start.world ≡ opening start.module_run start.world.arguments → IsLongest (graph links (ends all)) (steps_bound start.module_run)

@@ -1,6 +1,6 @@
 -- One that was found goes on by a step and by private steps.
 use Rattle.std.proofs.Common.{◌≡◌, ◌∙◌, ℕ, ℤ, zero, suc, ◌+◌, ◌<◌, ◌≤◌, ◌⊎◌, inl, inr, Bool, true, false}
-use Rattle.std.proofs.Common.{List, [], ◌∷◌, ◌++◌, length, Option, Some, None, refl, sym, ap, subst, add-one, arith, slice_get}
+use Rattle.std.proofs.Common.{List, [], ◌∷◌, ◌++◌, length, Option, Some, None, refl, sym, ap, subst, add-one, arith, slice_get, true≢false}
 use Rattle.std.specs.Option.{option_to_list}
 use Rattle.std.proofs.lemmas.List.{append-nil}
 use Rattle.std.proofs.lemmas.Option.{none-some, same_Some}
@@ -10,7 +10,7 @@ use Rattle.xk_types.specs.Bound.{steps_bound}
 use Rattle.xk_types.specs.Code.{ModuleValue, IsWithinLimits}
 use Rattle.xk_types.specs.World.{World}
 use Rattle.xk_types.specs.Step.{Outcome, Blocked, Wrong, Stepped, step}
-use Rattle.xk_types.specs.Schedule.{is_enabled, number_printed}
+use Rattle.xk_types.specs.Schedule.{is_enabled, is_step, number_printed}
 use Rattle.xk_law_schedules.proofs.ReachabilityLemmas.{run_more}
 use Rattle.xk_outcomes.specs.PrivateSteps.{has_private_step}
 use Rattle.xk_law_commute.proofs.QuietStepLaw.{enabled_step}
@@ -20,7 +20,7 @@ use Rattle.xk_outcomes.specs.Found.{next, one_more, or_this, settled, through, w
 use Rattle.xk_readings.specs.declared.edge.Edge.{Edge}
 use Rattle.xk_outcomes.specs.Alikeness.{Alikeness}
 use Rattle.xk_outcomes.specs.Links.{HasLink}
-use Rattle.xk_outcomes.specs.Search.{HasAfter, IsFound, IsSettled, IsThere, LeadsPrivately}
+use Rattle.xk_outcomes.specs.Search.{HasAfter, IsFound, IsFoundBy, IsSettled, IsThere, LeadsPrivately}
 use Rattle.xk_outcomes.proofs.PrivateStepLemmas.{private_enabled, private_silent}
 use Rattle.xk_outcomes.proofs.SearchLemmas.{printed_more}
 
@@ -58,21 +58,41 @@ least_passes passes (suc n) a h = by (least_passes passes n a) (least passes n) 
 
 -- ---- a step
 
+-- a step leads on from where a schedule led
+found_stepped : (start : CoreValue) (schedule : List ℕ) (x : FoundValue) (a : ℕ) (w : World) (e : Event) → IsFoundBy start schedule x
+    → step x.core.module_run x.core.world a ≡ Stepped w e → IsFoundBy start (schedule ++ a ∷ []) (with_outcome x a (Stepped w e))
+found_stepped start schedule x a w e f h =
+    let m = start.module_run in
+    let stepped : step m x.core.world a ≡ Stepped w e = subst (λ k. step k x.core.world a ≡ Stepped w e) f.module_is h in
+    record {
+      module_is = f.module_is;
+      legal = run_more m schedule start.world x.core.world w a e f.legal stepped;
+      prints = printed_more m schedule start.world x.core.world w a e f.legal stepped ∙ ap (λ l. l ++ option_to_list (number_printed e)) f.prints;
+    }
+
+-- the same of a step that is known to be taken
+pub found_taken : (start : CoreValue) (schedule : List ℕ) (x : FoundValue) (a : ℕ) → IsFoundBy start schedule x
+    → is_enabled x.core.module_run x.core.world a ≡ true → IsFoundBy start (schedule ++ a ∷ []) (one_more a x)
+found_taken start schedule x a f enabled =
+    let taken = enabled_step (step x.core.module_run x.core.world a) enabled in
+    subst (IsFoundBy start (schedule ++ a ∷ [])) (sym (ap (with_outcome x a) taken.2)) (found_stepped start schedule x a taken.0 taken.1 f taken.2)
+
+-- one that can't be taken changes nothing
+pub none_taken : (x : FoundValue) (a : ℕ) → is_enabled x.core.module_run x.core.world a ≡ false → one_more a x ≡ x
+none_taken x a h = by (step x.core.module_run x.core.world a) h
+  where
+    by : (o : Outcome) → is_step o ≡ false → with_outcome x a o ≡ x
+    by Blocked e = refl
+    by (Wrong c) e = refl
+    by (Stepped w e) f = absurd (true≢false f)
+
 found_one_more : (start : CoreValue) (x : FoundValue) (a : ℕ) → IsFound start x → IsFound start (one_more a x)
 found_one_more start x a f = by (step x.core.module_run x.core.world a) refl
   where
     by : (o : Outcome) → step x.core.module_run x.core.world a ≡ o → IsFound start (with_outcome x a o)
     by Blocked h = f
     by (Wrong c) h = f
-    by (Stepped w e) h =
-        let m = start.module_run in
-        let stepped : step m x.core.world a ≡ Stepped w e = subst (λ k. step k x.core.world a ≡ Stepped w e) f.module_is h in
-        record {
-          module_is = f.module_is;
-          legal = run_more m x.schedule start.world x.core.world w a e f.legal stepped;
-          prints = printed_more m x.schedule start.world x.core.world w a e f.legal stepped
-              ∙ ap (λ l. l ++ option_to_list (number_printed e)) f.prints;
-        }
+    by (Stepped w e) h = (f.0 ++ a ∷ [], found_stepped start f.0 x a w e f.1 h)
 
 -- ---- private steps
 
@@ -91,8 +111,12 @@ settled_found start x s = subst (IsFound start) (sym s.2) (found_settled start s
 pub settled_next : (start : CoreValue) (x : FoundValue) (a : ℕ) → IsFound start x → IsSettled start (next a x)
 settled_next start x a f = (one_more a x, found_one_more start x a f, refl)
 
+-- the start is found by no step
+pub found_start : (start : CoreValue) → IsFoundBy start [] (record { core = start; printed = [] })
+found_start start = record { module_is = refl; legal = refl; prints = refl }
+
 pub settled_first : (start : CoreValue) → IsSettled start (first_found start)
-settled_first start = (record { core = start; printed = []; schedule = [] }, record { module_is = refl; legal = refl; prints = refl }, refl)
+settled_first start = (record { core = start; printed = [] }, ([], found_start start), refl)
 
 -- where there is no private step, no more are taken
 pub settled_all : (x y : FoundValue) (k n : ℕ) → k ≤ n → y ≡ settled k x → least_private y.core ≡ None → y ≡ settled n x
@@ -190,12 +214,12 @@ after_next m limits ok like all links number to here y a same is there link u e 
 -- the first one prints nothing, and private steps lead to it
 pub first_silent : (start : CoreValue) → IsWithinLimits start.module_run → IsAccepted start.module_run → (first_found start).printed ≡ []
 first_silent start limits ok =
-    (settles start.module_run limits ok (record { core = start; printed = []; schedule = [] }) refl (steps_bound start.module_run)).prints
+    (settles start.module_run limits ok (record { core = start; printed = [] }) refl (steps_bound start.module_run)).prints
 
 pub first_led : (start : CoreValue) → IsWithinLimits start.module_run → IsAccepted start.module_run
     → (list : List ℕ) × LeadsPrivately start.module_run list start.world (first_found start).core.world
 first_led start limits ok =
-    let s = settles start.module_run limits ok (record { core = start; printed = []; schedule = [] }) refl (steps_bound start.module_run) in
+    let s = settles start.module_run limits ok (record { core = start; printed = [] }) refl (steps_bound start.module_run) in
     (s.list, s.private)
 
 -- ---- along a way
@@ -205,12 +229,12 @@ pub along_push : (way : List ℕ) (a : ℕ) (x : FoundValue) → along (way ++ a
 along_push [] a x = refl
 along_push (b ∷ way) a x = ap (next b) (along_push way a x)
 
+pub first_is_found : (start : CoreValue) → IsFound start (first_found start)
+first_is_found start = settled_found start (first_found start) (settled_first start)
+
 -- what a schedule of such steps leads to was found
 found_next : (start : CoreValue) (x : FoundValue) (a : ℕ) → IsFound start x → IsFound start (next a x)
 found_next start x a f = settled_found start (next a x) (settled_next start x a f)
-
-pub first_is_found : (start : CoreValue) → IsFound start (first_found start)
-first_is_found start = settled_found start (first_found start) (settled_first start)
 
 pub found_through : (start : CoreValue) (acts : List ℕ) (x : FoundValue) → IsFound start x → IsFound start (through acts x)
 found_through start [] x f = f

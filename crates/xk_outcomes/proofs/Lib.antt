@@ -3,6 +3,7 @@ mod PrivateStepLemmas
 pub mod FoundLemmas
 mod AlikeLemmas
 mod RestLemmas
+mod CheckpointLemmas
 mod EntriesLemmas
 mod LookupLemmas
 pub mod FollowLemmas

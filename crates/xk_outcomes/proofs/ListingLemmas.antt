@@ -1,9 +1,8 @@
 -- What one more leaves listed, and from what was found to what is listed.
 use Rattle.std.proofs.Common.{◌≡◌, ◌∙◌, ℕ, ℤ, zero, suc, ◌+◌, ◌<◌, ◌≤◌, ◌⊎◌, inl, inr, Bool}
 use Rattle.std.proofs.Common.{true, false, List, [], ◌∷◌, ◌++◌, length, Some, refl, sym, ap, subst, arith, slice_get}
-use Rattle.std.specs.Prelude.{count_by, map}
+use Rattle.std.specs.Prelude.{count_by}
 use Rattle.std.specs.Ordering.{int_eq}
-use Rattle.std.proofs.lemmas.List.{length-map}
 use Rattle.std.proofs.lemmas.Option.{none-some, same_Some}
 use Rattle.xk_types.specs.Code.{ModuleValue}
 use Rattle.xk_types.specs.World.{opening}
@@ -19,7 +18,7 @@ use Rattle.xk_outcomes.specs.declared.order.Order.{Order}
 use Rattle.xk_outcomes.specs.declared.order.Order.TheVariants as order
 use Rattle.xk_outcomes.specs.Links.{AreLinked}
 use Rattle.xk_outcomes.specs.Alikeness.{Alikeness, live_by}
-use Rattle.xk_outcomes.specs.Search.{AreFound, AreAllFound, AreAtRest, AreDifferent, IsFound}
+use Rattle.xk_outcomes.specs.Search.{AreFound, AreAllFound, AreAtRest, AreDifferent, IsFoundBy}
 use Rattle.xk_outcomes.specs.Rising.{key, ordered, rising}
 use Rattle.xk_outcomes.specs.Listing.{IsOf, AreApartIn, AreMet, AreOf, AreNoted}
 use Rattle.xk_outcomes.specs.Listing.{AreShownIn, AreAllIn, AreEndsListedIn, HasKeptIn, KeepsListed}
@@ -56,23 +55,23 @@ keeps_same old new e numbers h = subst (λ (l : List Outcome). IsListed l number
 pub listed_push : (old new : List Outcome) (o : Outcome) → new ≡ old ++ o ∷ [] → IsListed new o.numbers.items
 listed_push old new o e = (length old, o, subst (λ (l : List Outcome). slice_get l (length old) ≡ Some o) (sym e) (at_end old o), refl)
 
-of_push : (order : Order) (start : CoreValue) (first : List Outcome) (x : FoundValue) (old new : List Outcome) (o : Outcome)
+of_push : (order : Order) (start : CoreValue) (first : List Outcome) (schedule : List ℕ) (x : FoundValue) (old new : List Outcome) (o : Outcome)
     → new ≡ old ++ o ∷ []
-    → IsFound start x → IsOf order x o → AreOf order start first old → AreOf order start first new
-of_push order start first x old new o e found is before k p h =
+    → IsFoundBy start schedule x → IsOf order schedule x o → AreOf order start first old → AreOf order start first new
+of_push order start first schedule x old new o e found is before k p h =
     by (place old o k p (subst (λ (l : List Outcome). slice_get l k ≡ Some p) e h))
   where
     by : (slice_get old k ≡ Some p) ⊎ ((k ≡ length old) × (o ≡ p))
-        → (slice_get first k ≡ Some p) ⊎ ((y : FoundValue) × IsFound start y × IsOf order y p)
+        → (slice_get first k ≡ Some p) ⊎ ((y : FoundValue) × (s : List ℕ) × IsFoundBy start s y × IsOf order s y p)
     by (inl a) = before k p a
-    by (inr b) = inr (x, found, subst (λ (q : Outcome). IsOf order x q) b.1 is)
+    by (inr b) = inr (x, schedule, found, subst (λ (q : Outcome). IsOf order schedule x q) b.1 is)
 
 -- the same where it was listed already
-pub of_either : (order : Order) (start : CoreValue) (first : List Outcome) (x : FoundValue) (old new : List Outcome) (o : Outcome)
+pub of_either : (order : Order) (start : CoreValue) (first : List Outcome) (schedule : List ℕ) (x : FoundValue) (old new : List Outcome) (o : Outcome)
     → (new ≡ old) ⊎ (new ≡ old ++ o ∷ [])
-    → IsFound start x → IsOf order x o → AreOf order start first old → AreOf order start first new
-of_either order start first x old new o (inl e) found is before = subst (AreOf order start first) (sym e) before
-of_either order start first x old new o (inr e) found is before = of_push order start first x old new o e found is before
+    → IsFoundBy start schedule x → IsOf order schedule x o → AreOf order start first old → AreOf order start first new
+of_either order start first schedule x old new o (inl e) found is before = subst (AreOf order start first) (sym e) before
+of_either order start first schedule x old new o (inr e) found is before = of_push order start first schedule x old new o e found is before
 
 -- one was listed, or nothing was
 pub added_as : (old new : List Outcome) (o : Outcome) {numbers : List ℤ} → o.numbers.items ≡ numbers → (new ≡ old) ⊎ (new ≡ old ++ o ∷ [])
@@ -102,20 +101,22 @@ pub all_shown : (order : Order) (m : ModuleValue) (args : List ℤ) (old list : 
     → AreShownIn order m args list
 all_shown order m args old list before of k o there = by (of k o there)
   where
-    by : (slice_get old k ≡ Some o) ⊎ ((x : FoundValue) × IsFound (opening_core m args) x × IsOf order x o)
+    by : (slice_get old k ≡ Some o)
+        ⊎ ((x : FoundValue) × (s : List ℕ) × IsFoundBy (opening_core m args) s x × IsOf order s x o)
         → (numbers : List ℤ) × IsOutcome m args (schedule_of o.log.items) numbers × (o.numbers.items ≡ ordered order numbers)
     by (inl a) = before k o a
     by (inr h) =
         let x : FoundValue = h.0 in
-        let f = h.1 in (
+        let f = h.2 in
+        let is = h.3 in (
           x.printed,
           record {
             last = x.core.world;
-            legal = ap (λ (l : List ℕ). run m l (opening m args)) h.2.log ∙ f.legal;
-            over = h.2.over;
-            prints = ap (λ (l : List ℕ). printed m l (opening m args)) h.2.log ∙ f.prints;
+            legal = ap (λ (l : List ℕ). run m l (opening m args)) is.log ∙ f.legal;
+            over = is.over;
+            prints = ap (λ (l : List ℕ). printed m l (opening m args)) is.log ∙ f.prints;
           },
-          h.2.numbers,
+          is.numbers,
         )
 
 pub all_listed : (order : Order) (m : ModuleValue) (args : List ℤ) (all : List FoundValue) (links : List Edge) (list : List Outcome)
@@ -126,56 +127,59 @@ all_listed order m args all links list found listed schedule numbers o =
     subst (λ p. IsListed list (ordered order p)) o.prints
     (listed h.0 h.1 (printed m schedule (opening m args)) h.2 h.3 h.4 h.5)
 
--- their schedules
-abbrev schedules : List FoundValue → List (List ℕ)
-schedules all = map (λ (x : FoundValue). x.schedule) all
+-- schedules that lead to them
+schedules : (start : CoreValue) (all : List FoundValue) → AreFound start all → List (List ℕ)
+schedules start [] found = []
+schedules start (x ∷ all) found = (found 0 x refl).0 ∷ schedules start all (λ k. found (suc k))
 
--- each is that of one of them
-scheduled : (all : List FoundValue) (k : ℕ) (p : List ℕ) → slice_get (schedules all) k ≡ Some p
-    → (x : FoundValue) × (slice_get all k ≡ Some x) × (x.schedule ≡ p)
-scheduled [] k p h = absurd (none-some p h)
-scheduled (x ∷ all) zero p h = (x, refl, same_Some x.schedule p h)
-scheduled (x ∷ all) (suc k) p h = scheduled all k p h
+-- one for each
+many_schedules : (start : CoreValue) (all : List FoundValue) (found : AreFound start all) → length (schedules start all found) ≡ length all
+unfolding schedules
+many_schedules start [] found = refl
+many_schedules start (x ∷ all) found = ap suc (many_schedules start all (λ k. found (suc k)))
+
+-- each leads to one of them
+scheduled : (start : CoreValue) (all : List FoundValue) (found : AreFound start all) (k : ℕ) (p : List ℕ)
+    → slice_get (schedules start all found) k ≡ Some p
+    → (x : FoundValue) × (slice_get all k ≡ Some x) × IsFoundBy start p x
+unfolding schedules
+scheduled start [] found k p h = absurd (none-some p h)
+scheduled start (x ∷ all) found zero p h =
+    let f = found 0 x refl in
+    (x, refl, subst (λ s. IsFoundBy start s x) (same_Some f.0 p h) f.1)
+scheduled start (x ∷ all) found (suc k) p h = scheduled start all (λ j. found (suc j)) k p h
 
 -- each that was found has a schedule and is at rest, and no two have the same world and numbers
-all_apart : (order : Order) (like : Alikeness) → like.order ≡ order → (m : ModuleValue) (args : List ℤ) (all : List FoundValue) → AreFound (opening_core m args) all → AreAtRest all
-    → AreDifferent like all
-    → AreApartIn (live_by like) order m args (schedules all)
+all_apart : (order : Order) (like : Alikeness) → like.order ≡ order → (m : ModuleValue) (args : List ℤ) (all : List FoundValue)
+    → (found : AreFound (opening_core m args) all) → AreAtRest all → AreDifferent like all
+    → AreApartIn (live_by like) order m args (schedules (opening_core m args) all found)
 all_apart order like told m args all found rest different = record {
   legal = λ k p there.
-      let x = scheduled all k p there in
-      let f = found k x.0 x.1 in (
+      let x = scheduled (opening_core m args) all found k p there in (
         x.0.core.world,
-        ap (λ (l : List ℕ). run m l (opening m args)) (sym x.2) ∙ f.legal,
-        subst (λ k. IsAtRest k x.0.core.world) f.module_is (rest k x.0 x.1),
+        x.2.legal,
+        subst (λ k. IsAtRest k x.0.core.world) x.2.module_is (rest k x.0 x.1),
       );
   apart = λ i j p q w v hi hj lead_w lead_v alike same.
-      let x = scheduled all i p hi in
-      let y = scheduled all j q hj in
-      let f = found i x.0 x.1 in
-      let g = found j y.0 y.1 in
-      let to_w : w ≡ x.0.core.world = same_through w x.0.core.world (sym lead_w
-      ∙ (ap (λ (l : List ℕ). run m l (opening m args)) (sym x.2) ∙ f.legal)) in
-      let to_v : v ≡ y.0.core.world = same_through v y.0.core.world (sym lead_v
-      ∙ (ap (λ (l : List ℕ). run m l (opening m args)) (sym y.2) ∙ g.legal)) in
+      let x = scheduled (opening_core m args) all found i p hi in
+      let y = scheduled (opening_core m args) all found j q hj in
+      let to_w : w ≡ x.0.core.world = same_through w x.0.core.world (sym lead_w ∙ x.2.legal) in
+      let to_v : v ≡ y.0.core.world = same_through v y.0.core.world (sym lead_v ∙ y.2.legal) in
       let worlds : AreAlikeWhereLive (live_by like) y.0.core.world x.0.core.world =
       ap (live_part (live_by like)) (sym to_v) ∙ sym alike ∙ ap (live_part (live_by like)) to_w in
       let numbers : key order x.0.printed ≡ key order y.0.printed =
-      ap (key order) (sym f.prints ∙ ap (λ (l : List ℕ). printed m l (opening m args)) x.2) ∙ same
-      ∙ ap (key order) (ap (λ (l : List ℕ). printed m l (opening m args)) (sym y.2) ∙ g.prints) in
+      ap (key order) (sym x.2.prints) ∙ same ∙ ap (key order) y.2.prints in
       different i j x.0 y.0 x.1 y.1 (worlds, subst (λ o. key o x.0.printed ≡ key o y.0.printed) (sym told) numbers);
 }
 
 -- where whatever stands along links is listed, what the ones print is in which all have ended
 ends_listed : (order : Order) (live : SlotTable) (m : ModuleValue) (args : List ℤ) (all : List FoundValue) (links : List Edge) (list : List Outcome)
-    → AreFound (opening_core m args) all → AreLinked live m all links
-    → AreMet order all links list → AreEndsListedIn order m args (schedules all) list
+    → (found : AreFound (opening_core m args) all) → AreLinked live m all links
+    → AreMet order all links list → AreEndsListedIn order m args (schedules (opening_core m args) all found) list
 ends_listed order live m args all links list found linked met k p numbers there o =
-    let x = scheduled all k p there in
-    let f = found k x.0 x.1 in
-    let same : o.last ≡ x.0.core.world = same_through o.last x.0.core.world (sym o.legal
-    ∙ (ap (λ (l : List ℕ). run m l (opening m args)) (sym x.2) ∙ f.legal)) in
-    let prints : x.0.printed ≡ numbers = sym f.prints ∙ ap (λ (l : List ℕ). printed m l (opening m args)) x.2 ∙ o.prints in
+    let x = scheduled (opening_core m args) all found k p there in
+    let same : o.last ≡ x.0.core.world = same_through o.last x.0.core.world (sym o.legal ∙ x.2.legal) in
+    let prints : x.0.printed ≡ numbers = sym x.2.prints ∙ o.prints in
     subst (λ n. IsListed list (ordered order n)) prints
     (met k x.0 x.0.printed x.1 (sym (ap all_ended same) ∙ o.over) refl (linked.led k x.0 x.1))
 
@@ -189,8 +193,8 @@ pub all_kept : (order : Order) (like : Alikeness) → like.order ≡ order → (
     → AreAtRest all → AreDifferent like all → (whole ≡ true → AreMet order all links list) → (whole ≡ false → limit ≤ length list)
     → HasKeptIn order m args limit list (length all)
 all_kept order like told m args limit all links list whole found linked liveness rest different met full = record {
-  schedules = schedules all;
-  many = length-map all (λ (x : FoundValue). x.schedule);
+  schedules = schedules (opening_core m args) all found;
+  many = many_schedules (opening_core m args) all found;
   live = live_by like;
   liveness = liveness;
   apart = all_apart order like told m args all found rest different;

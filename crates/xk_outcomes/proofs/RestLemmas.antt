@@ -94,11 +94,11 @@ module _ (start : CoreValue) (limits : IsWithinLimits start.module_run) (ok : Is
   found_reached : (x : FoundValue) → IsFound start x → IsReached start.module_run x.core.world
   found_reached x f =
       let m = start.module_run in
-      let same = sym (run_arguments m x.schedule start.world x.core.world f.legal) in (
-        x.schedule,
+      let same = sym (run_arguments m f.0 start.world x.core.world f.1.legal) in (
+        f.0,
         (
           subst (AreArguments m) same taken,
-          subst (λ args. run m x.schedule (opening m args) ≡ Through x.core.world) same (subst (λ w. run m x.schedule w ≡ Through x.core.world) begins f.legal),
+          subst (λ args. run m f.0 (opening m args) ≡ Through x.core.world) same (subst (λ w. run m f.0 w ≡ Through x.core.world) begins f.1.legal),
         ),
       )
 
@@ -126,7 +126,7 @@ module _ (start : CoreValue) (limits : IsWithinLimits start.module_run) (ok : Is
 
   -- one that is settled is at rest
   settled_rests : (x : FoundValue) → IsFound start x → least_private (at_rest x).core ≡ None
-  settled_rests x f = rests_all x f (steps_bound x.core.module_run) (ap steps_bound f.module_is)
+  settled_rests x f = rests_all x f (steps_bound x.core.module_run) (ap steps_bound f.1.module_is)
 
   pub all_rest : (all : List FoundValue) → AreSettled start all → AreAtRest all
   all_rest all settles k x there =

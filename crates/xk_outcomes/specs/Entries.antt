@@ -4,6 +4,8 @@ use Rattle.xk_core.specs.Core.{CoreValue}
 use Rattle.xk_outcomes.specs.declared.entries.Edge.{Edge}
 use Rattle.xk_liveness.specs.Liveness.{IsLiveness}
 use Rattle.xk_outcomes.specs.Alikeness.{Alikeness, live_by}
+use Rattle.xk_outcomes.specs.Checkpoints.{AreCheckpoints}
+use Rattle.xk_outcomes.specs.declared.checkpoint.Checkpoint.{Checkpoint}
 use Rattle.xk_outcomes.specs.Found.{FoundValue, first_found, next}
 use Rattle.xk_outcomes.specs.Links.{ends}
 use Rattle.xk_outcomes.specs.Search.{AreDifferent, AreDigests}
@@ -30,12 +32,13 @@ first_entry like start = record { start = start; like = like; all = first_found 
 abbrev pub AreBehind : List Edge → Type 0
 AreBehind edges = (k : ℕ) (e : Edge) → slice_get edges k ≡ Some e → e.from ≤ k
 
--- The search starts with a core that has taken no step, in whose module no more slots are live than are told; these are the digests of those that the edges lead to, of which no two are the same; and in these
--- all have ended.
-pub record AreEntries (start : CoreValue) (like : Alikeness) (edges : List Edge) (digests : List ℕ) (over : List Bool) : Type 0 where
+-- The search starts with a core that has taken no step, in whose module no more slots are live than are told; these are the digests of those that the edges lead to, of which no two are the same; in these
+-- all have ended; and these are kept whole.
+pub record AreEntries (start : CoreValue) (like : Alikeness) (edges : List Edge) (digests : List ℕ) (over : List Bool) (checkpoints : List Checkpoint) : Type 0 where
   pub root : start.world.steps ≡ 0
   pub liveness : IsLiveness start.module_run (live_by like)
   pub behind : AreBehind edges
   pub digests_are : AreDigests like (led_by start edges) digests
   pub over_are : over ≡ ends (led_by start edges)
+  pub checkpoints_are : AreCheckpoints (led_by start edges) checkpoints
   pub different : AreDifferent like (led_by start edges)

@@ -9,8 +9,8 @@ use Rattle.xk_outcomes.specs.Found.{first_found}
 use Rattle.xk_outcomes.specs.Links.{AreLinked}
 use Rattle.xk_outcomes.specs.Search.{AreAllFound, AreAtRest, AreDifferent, AreFound}
 
--- It is found from this start, told apart in this order and linked: each at rest, and no two of them the same. If nothing is left to look at, whatever
--- a run prints stands along links; else more are kept than the limit says.
+-- It is found from this start, told apart in this order and linked: each at rest, and no two of them the same. If nothing
+-- is left to look at, whatever a run prints stands along links; else more are kept than the limit says.
 pub record IsExplored (order : Order) (start : CoreValue) (limit : ℕ) (x : Explored) : Type 0 where
   pub begun : x.found.start ≡ start
   pub told : x.found.like.order ≡ order

@@ -7,11 +7,10 @@ use Rattle.xk_types.specs.Bound.{steps_bound}
 use Rattle.xk_outcomes.specs.PrivateSteps.{has_private_step}
 use Rattle.xk_core.specs.Core.{CoreValue, with_world}
 
--- a core, the numbers that were printed by then, and a schedule that leads there and prints them
+-- a core, and the numbers that were printed by then
 pub record FoundValue : Type 0 where
   pub core : CoreValue
   pub printed : List ℤ
-  pub schedule : List ℕ
 
 -- ---- a step
 
@@ -22,7 +21,6 @@ with_outcome x a (Wrong c) = x
 with_outcome x a (Stepped w e) = record {
   core = with_world x.core w;
   printed = x.printed ++ option_to_list (number_printed e);
-  schedule = x.schedule ++ a ∷ [];
 }
 
 -- a step of activity a more, if it can take one
@@ -68,7 +66,7 @@ next a x = at_rest (one_more a x)
 
 -- what is found before any step that isn't private
 abbrev pub first_found : CoreValue → FoundValue
-first_found start = at_rest (record { core = start; printed = []; schedule = [] })
+first_found start = at_rest (record { core = start; printed = [] })
 
 -- where steps of these activities lead, the last of which stands first
 abbrev pub along : List ℕ → FoundValue → FoundValue

@@ -7,6 +7,7 @@ pub mod Alikeness
 pub mod Links
 pub mod Search
 pub mod Explored
+pub mod Checkpoints
 pub mod Entries
 pub mod Rising
 pub mod Listing

@@ -16,18 +16,19 @@ use Rattle.xk_outcomes.specs.declared.listing.Outcome.{Outcome}
 use Rattle.xk_outcomes.specs.declared.order.Order.{Order}
 use Rattle.xk_outcomes.specs.Outcomes.{IsAtRest, IsListed, IsOutcome}
 use Rattle.xk_outcomes.specs.Rising.{key, ordered}
-use Rattle.xk_outcomes.specs.Search.{IsFound}
+use Rattle.xk_outcomes.specs.Search.{IsFoundBy}
 
--- all have ended in what was found, and this has its numbers, in the order in which they are told, and a log of its schedule
-pub record IsOf (order : Order) (x : FoundValue) (o : Outcome) : Type 0 where
+-- all have ended in what was found, and this has its numbers, in the order in which they are told, and a log of this schedule
+pub record IsOf (order : Order) (schedule : List ℕ) (x : FoundValue) (o : Outcome) : Type 0 where
   pub over : all_ended x.core.world ≡ true
   pub numbers : o.numbers.items ≡ ordered order x.printed
-  pub log : schedule_of o.log.items ≡ x.schedule
+  pub log : schedule_of o.log.items ≡ schedule
 
--- each that is listed was before, at the same place, or is of one that was found from this start
+-- each that is listed was before, at the same place, or is of one that was found from this start, with a schedule that leads there
 abbrev pub AreOf : Order → CoreValue → List Outcome → List Outcome → Type 0
 AreOf order start old list = (k : ℕ) (o : Outcome) → slice_get list k ≡ Some o
-    → (slice_get old k ≡ Some o) ⊎ ((x : FoundValue) × IsFound start x × IsOf order x o)
+    → (slice_get old k ≡ Some o)
+    ⊎ ((x : FoundValue) × (schedule : List ℕ) × IsFoundBy start schedule x × IsOf order schedule x o)
 
 -- of those before this place, what the ones print in which all have ended is listed
 abbrev pub AreNoted : Order → List FoundValue → ℕ → List Outcome → Type 0

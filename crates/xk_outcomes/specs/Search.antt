@@ -22,16 +22,24 @@ use Rattle.xk_outcomes.specs.Rising.{key}
 
 -- ---- one that was found
 
--- its schedule leads to its core from the start, and prints its numbers
-pub record IsFound (start : CoreValue) (x : FoundValue) : Type 0 where
+-- this schedule leads to its core from the start, and prints its numbers
+pub record IsFoundBy (start : CoreValue) (schedule : List ℕ) (x : FoundValue) : Type 0 where
   pub module_is : x.core.module_run ≡ start.module_run
-  pub legal : run start.module_run x.schedule start.world ≡ Through x.core.world
-  pub prints : printed start.module_run x.schedule start.world ≡ x.printed
+  pub legal : run start.module_run schedule start.world ≡ Through x.core.world
+  pub prints : printed start.module_run schedule start.world ≡ x.printed
+
+-- some schedule does
+abbrev pub IsFound : CoreValue → FoundValue → Type 0
+IsFound start x = (schedule : List ℕ) × IsFoundBy start schedule x
 
 -- these steps are private, and lead from w to v
 abbrev pub LeadsPrivately : ModuleValue → List ℕ → World → World → Type 0
 LeadsPrivately m [] w v = w ≡ v
 LeadsPrivately m (a ∷ list) w v = (has_private_step m w a ≡ true) × (u : World) × (e : Event) × (step m w a ≡ Stepped u e) × LeadsPrivately m list u v
+
+-- whatever start the first schedule led from to x, from there the second one leads to y
+abbrev pub LeadsOn : List ℕ → FoundValue → List ℕ → FoundValue → Type 0
+LeadsOn old x new y = (start : CoreValue) → IsFoundBy start old x → IsFoundBy start new y
 
 -- ---- all that were found
 

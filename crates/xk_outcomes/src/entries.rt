@@ -1,21 +1,26 @@
-//! Those that were found, of which only how they were found is kept: from which, and by whose step.
+//! Those that were found, of most of which only how they were found is kept: from which, and by whose step.
 
-ghost use Rattle.std.specs.Prelude.{◌≡◌, ◌<◌, true, false, length, slice_get, IfNone, IfOk, IfSome, OnErr, Some, List};
+ghost use Rattle.std.specs.Prelude.{◌≡◌, ◌<◌, ◌⊎◌, ◌++◌, ◌∷◌, [], OnOk, true, false, length, slice_get, slice_set, IfNone, IfOk, IfSome, OnErr, Some, List};
 ghost use Rattle.std.specs.Bool.{Decides};
 ghost use Rattle.xk_types.specs.Bound.{steps_bound};
+ghost use Rattle.xk_types.specs.Schedule.{all_ended};
 ghost use Rattle.xk_readings.specs.declared.edge.Edge.{Edge as Link};
 ghost use Rattle.xk_readings.specs.Graphs.{graph};
 ghost use Rattle.xk_readings.specs.Readings.{IsLongest};
 ghost use Rattle.xk_liveness.specs.Liveness.{IsLiveness};
 ghost use Rattle.xk_outcomes.specs.Alikeness.{live_by};
+ghost use Rattle.xk_outcomes.specs.Checkpoints.{IsCheckpoint};
 ghost use Rattle.xk_outcomes.specs.Entries.{first_entry};
 ghost use Rattle.xk_outcomes.specs.Found.{FoundValue, along, first_found, next, through};
 ghost use Rattle.xk_outcomes.specs.Links.{AreLinked, ends};
 ghost use Rattle.xk_outcomes.specs.Listing.{ArePlayed};
-ghost use Rattle.xk_outcomes.specs.Search.{AreDifferent, AreFound, AreSettled, Has, IsAdded, IsAt, IsFound, IsGrown, IsThere, found_digest};
+ghost use Rattle.xk_outcomes.specs.Search.{AreDifferent, AreFound, AreSettled, Has, IsAdded, IsAt, IsFound, IsFoundBy};
+ghost use Rattle.xk_outcomes.specs.Search.{IsGrown, IsThere, found_digest};
 
+use crate::checkpoint::{Checkpoint, ROOM, is_far, room_beside};
 use crate::found::{Found, beginning};
 use crate::order::{Order, key_of};
+use crate::run::Run;
 use std::alloc::{AllocError, Global};
 use std::marker::Model;
 use xk_core::Core;
@@ -32,9 +37,18 @@ pub struct Edge {
     pub act: Act,
 }
 
-/// Those that were found, numbered from 0. The first is found by private steps alone. No core is kept with one: whoever wants to look
-/// at it is led there again. No two are in worlds that are alike where slots are live, unless the order tells them apart by what was
-/// printed by then.
+/// Steps from one that was found to another.
+#[derive(Drop)]
+struct Way {
+    // where they begin
+    from: usize,
+    // by whom, the last one first
+    acts: Vec<Act>,
+}
+
+/// Those that were found, numbered from 0. The first is found by private steps alone. A core is kept with the first, and with one to
+/// which many steps lead from where one is kept: whoever wants to look at another is led there again from such a checkpoint. No two are in
+/// worlds that are alike where slots are live, unless the order tells them apart by what was printed by then.
 #[derive(Drop)]
 pub struct Entries<'m> {
     start: Core<'m>,
@@ -44,6 +58,12 @@ pub struct Entries<'m> {
     digests: Digests,
     // of each whether all have ended in it
     over: Vec<bool>,
+    // the first one, and those that are far from the checkpoint before them, as long as there is room
+    checkpoints: Vec<Checkpoint<'m>>,
+    // what is left of it
+    room: u64,
+    // of each the place of the last checkpoint on the way there
+    nearest: Vec<usize>,
 }
 
 impl<'m> Model for Entries<'m> {
@@ -58,7 +78,8 @@ impl<'m> Model for Entries<'m> {
     } };
 
     ghost invariant = { λ e. AreEntries e.start
-        (record { order = e.order; slots = e.live }) e.edges.items e.digests e.over.items };
+        (record { order = e.order; slots = e.live }) e.edges.items e.digests e.over.items
+        e.checkpoints.items };
 }
 
 /// The digest of one.
@@ -105,6 +126,43 @@ fn is_same(
     are_alike(live, &new.core, &x.core)
 }
 
+/// Another place stands at a number, if one does.
+fn replace(places: &mut Vec<usize>, number: usize, place: usize)
+    ensures { places.new.items ≡ slice_set places.old.items number place }
+{
+    if let Some(old) = places.get_mut(number) {
+        *old = place;
+    }
+}
+
+/// Puts the first one behind these: its digest, whether all have ended in it, and itself as a checkpoint.
+fn put_first<'m>(
+    alloc: Global,
+    order: Order,
+    start: &Core<'m>,
+    live: &LiveSlots<'m>,
+    digests: &mut Digests,
+    over: &mut Vec<bool>,
+    checkpoints: &mut Vec<Checkpoint<'m>>,
+) -> Result<(), AllocError>
+    requires { start.now.world.steps ≡ 0 }
+    ensures digests { OnOk result (digests.new ≡ digests.old
+        ++ found_digest (record { order = order; slots = live.now }) (first_found start.now) ∷ []) }
+    ensures over { OnOk result (over.new.items ≡ over.old.items
+        ++ all_ended (first_found start.now).core.world ∷ []) }
+    ensures checkpoints { OnOk result (checkpoints.new.items ≡ checkpoints.old.items
+        ++ record { number = 0; found = first_found start.now } ∷ []) }
+{
+    let found = beginning(alloc, start)?;
+    let digest = found_digest(alloc, order, live, &found)?;
+    digests.push(digest)?;
+    over.push(found.core.ended())?;
+    match checkpoints.push(Checkpoint { number: 0, found }) {
+        Ok(()) => Ok(()),
+        Err(_) => Err(AllocError),
+    }
+}
+
 impl<'m> Entries<'m> {
     /// The first one alone. Err where memory was refused.
     pub fn open(alloc: Global, order: Order, start: Core<'m>) -> Result<Entries<'m>, AllocError>
@@ -115,13 +173,20 @@ impl<'m> Entries<'m> {
         let live = LiveSlots::of(alloc, start.module())?;
         // For the invariant: that it has all live slots.
         let _verified = live.module();
-        let first = beginning(alloc, &start)?;
-        let over = first.core.ended();
-        let digest = found_digest(alloc, order, &live, &first)?;
-        drop(first);
         let mut digests = Digests::new(alloc);
-        digests.push(digest)?;
-        let over = Vec::from_array(alloc, [over])?;
+        let mut over = Vec::new(alloc);
+        let mut nearest = Vec::new(alloc);
+        let mut checkpoints = Vec::new(alloc);
+        nearest.push(0)?;
+        put_first(
+            alloc,
+            order,
+            &start,
+            &live,
+            &mut digests,
+            &mut over,
+            &mut checkpoints,
+        )?;
         Ok(Entries {
             start,
             order,
@@ -129,6 +194,9 @@ impl<'m> Entries<'m> {
             edges: Vec::new(alloc),
             digests,
             over,
+            checkpoints,
+            room: ROOM,
+            nearest,
         })
     }
 
@@ -169,55 +237,98 @@ impl<'m> Entries<'m> {
         verified.steps()
     }
 
-    /// The steps that lead to one from the first, the last of which stands first.
-    fn way_to(&self, alloc: Global, number: usize) -> Result<Vec<Act>, AllocError>
+    /// The way to one from another that stands on it, or else from the first.
+    fn way_to(&self, alloc: Global, number: usize, stop: usize) -> Result<Way, AllocError>
         requires { number < length self.now.all }
-        ensures { IfOk result (λ way. slice_get self.now.all number
-            ≡ Some (along way.items (first_found self.now.start))) }
+        ensures from { IfOk result (λ way. (way.from ≡ 0) ⊎ (way.from ≡ stop)) }
+        ensures leads { IfOk result (λ way. (x : FoundValue)
+            → slice_get self.now.all way.from ≡ Some x
+            → slice_get self.now.all number ≡ Some (along way.acts.items x)) }
     {
-        let mut way = Vec::new(alloc);
+        let mut acts = Vec::new(alloc);
         let mut at = number;
-        while at > 0 {
+        while at > 0 && at != stop {
             let edge = self.edges[at - 1];
-            way.push(edge.act)?;
+            acts.push(edge.act)?;
             at = edge.from;
         }
-        Ok(way)
+        Ok(Way { from: at, acts })
     }
 
-    /// The one of a number: a core is led there again.
+    /// The last checkpoint on the way to the one of a number.
+    fn checkpoint(&self, number: usize) -> &Checkpoint<'m>
+        ensures { IsCheckpoint self.now.all result.now }
+    {
+        let last = self.checkpoints.len() - 1;
+        let place = self.nearest.get(number).copied().unwrap_or(0);
+        &self.checkpoints[place.min(last)]
+    }
+
+    /// A copy of what a checkpoint keeps, if it is the one of a number, or else of the first one.
+    fn copy_at(
+        &self,
+        alloc: Global,
+        checkpoint: &Checkpoint<'m>,
+        number: usize,
+    ) -> Result<Found<'m>, AllocError>
+        requires checkpoint { IsCheckpoint self.now.all checkpoint.now }
+        requires number { (number ≡ 0) ⊎ (number ≡ checkpoint.now.number) }
+        ensures { IfOk result (λ x. slice_get self.now.all number ≡ Some x) }
+    {
+        if number == checkpoint.number {
+            return checkpoint.found.copy(alloc);
+        }
+        self.checkpoints[0].found.copy(alloc)
+    }
+
+    /// The one of a number: a core is led there again from a checkpoint.
     pub fn get(&self, alloc: Global, number: usize) -> Result<Found<'m>, AllocError>
         requires { number < length self.now.all }
         ensures { IfOk result (λ x. slice_get self.now.all number ≡ Some x) }
     {
-        let way = self.way_to(alloc, number)?;
-        let mut x = beginning(alloc, &self.start)?;
-        match x.go_along(way) {
+        let checkpoint = self.checkpoint(number);
+        let way = self.way_to(alloc, number, checkpoint.number)?;
+        let mut x = self.copy_at(alloc, checkpoint, way.from)?;
+        match x.go_along(way.acts) {
             Ok(()) => Ok(x),
             Err(_) => Err(AllocError),
         }
     }
 
-    /// What a step of the activity leads to from the one of a number, and private steps behind it.
-    pub fn successor(&self, alloc: Global, number: usize, act: Act) -> Result<Found<'m>, AllocError>
+    /// Whether all have ended in the one of a number.
+    pub fn is_over(&self, number: usize) -> bool
         requires { number < length self.now.all }
-        ensures { IfOk result (λ y. (x : FoundValue) → slice_get self.now.all number ≡ Some x
-            → y ≡ next act x) }
+        ensures { (x : FoundValue) → slice_get self.now.all number ≡ Some x
+            → result ≡ all_ended x.core.world }
     {
-        let mut x = self.get(alloc, number)?;
-        match x.go_on(act) {
-            Ok(()) => Ok(x),
+        self.over[number]
+    }
+
+    /// A run to the one of a number.
+    pub fn run_to(&self, alloc: Global, number: usize) -> Result<Run<'m>, AllocError>
+        requires { number < length self.now.all }
+        ensures to { IfOk result (λ run. slice_get self.now.all number ≡ Some run.to) }
+        ensures found { IfOk result
+            (λ run. IsFoundBy self.now.start run.schedule.items run.to) }
+    {
+        let way = self.way_to(alloc, number, 0)?;
+        let mut run = Run::begin(alloc, &self.start)?;
+        match run.go_along(way.acts) {
+            Ok(()) => Ok(run),
             Err(_) => Err(AllocError),
         }
     }
 
-    /// Where steps of these activities lead from the first one, and private steps behind each.
-    pub fn led(&self, alloc: Global, acts: &[u32]) -> Result<Found<'m>, AllocError>
-        ensures { IfOk result (λ x. x ≡ through acts.now (first_found self.now.start)) }
+    /// The run by steps of these activities from the first one, and private steps behind each.
+    pub fn led(&self, alloc: Global, acts: &[u32]) -> Result<Run<'m>, AllocError>
+        ensures to { IfOk result
+            (λ run. run.to ≡ through acts.now (first_found self.now.start)) }
+        ensures found { IfOk result
+            (λ run. IsFoundBy self.now.start run.schedule.items run.to) }
     {
-        let mut x = beginning(alloc, &self.start)?;
-        match x.go_through(acts) {
-            Ok(()) => Ok(x),
+        let mut run = Run::begin(alloc, &self.start)?;
+        match run.go_through(acts) {
+            Ok(()) => Ok(run),
             Err(_) => Err(AllocError),
         }
     }
@@ -286,11 +397,33 @@ impl<'m> Entries<'m> {
             None => {}
         }
         let number = self.len();
+        let nearest = self.nearest.get(from).copied().unwrap_or(0);
         self.edges.reserve(1)?;
         self.over.reserve(1)?;
+        self.nearest.reserve(1)?;
         self.digests.push(digest)?;
         self.edges.push_reserved(Edge { from, act });
         self.over.push_reserved(new.core.ended());
+        self.nearest.push_reserved(nearest);
         Ok(number)
+    }
+
+    /// Keeps the one of a number as a checkpoint, if it is far from the one before it and there is room. Err where memory was refused: it
+    /// isn't kept then.
+    pub fn keep(&mut self, number: usize, x: Found<'m>) -> Result<(), AllocError>
+        requires { slice_get self.old.all number ≡ Some x }
+        ensures { self.new ≡ self.old }
+    {
+        let room = room_beside(self.room, &x);
+        if room == 0 || !is_far(&self.checkpoint(number).found, &x) {
+            return Ok(());
+        }
+        let place = self.checkpoints.len();
+        self.checkpoints.reserve(1)?;
+        self.checkpoints
+            .push_reserved(Checkpoint { number, found: x });
+        replace(&mut self.nearest, number, place);
+        self.room = room;
+        Ok(())
     }
 }

@@ -1,8 +1,9 @@
 //! Worlds that are found one from another.
 
-ghost use Rattle.std.specs.Prelude.{◌≡◌, IfOk, OnOk};
+ghost use Rattle.std.specs.Prelude.{◌≡◌, [], IfOk, OnOk};
+ghost use Rattle.xk_types.specs.Schedule.{is_enabled};
 ghost use Rattle.xk_outcomes.specs.PrivateSteps.{has_private_step};
-ghost use Rattle.xk_outcomes.specs.Found.{along, at_rest, first_found, least_private, next, one_more, through};
+ghost use Rattle.xk_outcomes.specs.Found.{along, at_rest, first_found, least_private, next, one_more};
 
 use crate::private_steps::has_private_step;
 use std::alloc::{AllocError, Global};
@@ -11,15 +12,14 @@ use xk_core::Core;
 use xk_scheduler::keep_printed;
 use xk_types::Act;
 
-/// A world that was found: a core there, the numbers that were printed by then, and a schedule that leads there and prints them.
+/// A world that was found: a core there, and the numbers that were printed by then. It keeps no schedule, which may be long, so
+/// that a copy takes no more time than a core is large.
 #[derive(Drop)]
 pub struct Found<'m> {
-    /// Where its schedule leads.
+    /// Where a schedule led.
     pub core: Core<'m>,
     /// What was printed by then.
     pub printed: Vec<i64>,
-    /// Who took a step after whom.
-    pub schedule: Vec<u32>,
 }
 
 impl<'m> Model for Found<'m> {
@@ -27,15 +27,11 @@ impl<'m> Model for Found<'m> {
 
     ghost Value = { FoundValue };
 
-    ghost view = { λ x. record {
-      core = x.core;
-      printed = x.printed.items;
-      schedule = x.schedule.items;
-    } };
+    ghost view = { λ x. record { core = x.core; printed = x.printed.items } };
 }
 
 /// The least activity that has a private step, if one has.
-fn private_act(core: &Core<'_>) -> Option<Act>
+pub(crate) fn private_act(core: &Core<'_>) -> Option<Act>
     ensures { result ≡ least_private core.now }
 {
     for a in 0..core.activities() {
@@ -47,17 +43,39 @@ fn private_act(core: &Core<'_>) -> Option<Act>
 }
 
 impl<'m> Found<'m> {
-    /// One step of the activity, if it can take one.
-    fn step(&mut self, act: Act) -> Result<(), AllocError>
-        ensures { OnOk result (self.new ≡ one_more act self.old) }
+    /// Before any step.
+    pub(crate) fn open(alloc: Global, start: &Core<'m>) -> Result<Found<'m>, AllocError>
+        requires { start.now.world.steps ≡ 0 }
+        ensures { IfOk result (λ x. x ≡ record { core = start.now; printed = [] }) }
+    {
+        let core = Core::open(alloc, start.module(), start.arguments())?;
+        Ok(Found {
+            core,
+            printed: Vec::new(alloc),
+        })
+    }
+
+    /// The same once more.
+    pub fn copy(&self, alloc: Global) -> Result<Found<'m>, AllocError>
+        ensures { IfOk result (λ x. x ≡ self.now) }
+    {
+        let printed = self.printed.to_vec(alloc)?;
+        let core = self.core.copy()?;
+        Ok(Found { core, printed })
+    }
+
+    /// One step of the activity, if it can take one. Whether it could.
+    pub(crate) fn step(&mut self, act: Act) -> Result<bool, AllocError>
+        ensures more { OnOk result (self.new ≡ one_more act self.old) }
+        ensures taken { IfOk result (λ taken. taken
+            ≡ is_enabled self.old.core.module_run self.old.core.world act) }
     {
         if !self.core.enabled(act) {
-            return Ok(());
+            return Ok(false);
         }
         let event = self.core.step(act)?;
         keep_printed(&mut self.printed, event)?;
-        self.schedule.push(act.0)?;
-        Ok(())
+        Ok(true)
     }
 
     /// Private steps, as long as there is one.
@@ -67,7 +85,9 @@ impl<'m> Found<'m> {
         let most = self.core.module().steps();
         for turn in 0..most {
             match private_act(&self.core) {
-                Some(act) => self.step(act)?,
+                Some(act) => {
+                    self.step(act)?;
+                }
                 None => return Ok(()),
             }
         }
@@ -83,14 +103,15 @@ impl<'m> Found<'m> {
         Ok(())
     }
 
-    /// Steps of these activities, the first of which stands first, and private steps behind each.
-    pub fn go_through(&mut self, acts: &[u32]) -> Result<(), AllocError>
-        ensures { OnOk result (self.new ≡ through acts.now self.old) }
+    /// What a step of the activity leads to from here, and private steps behind it.
+    pub fn after(&self, alloc: Global, act: Act) -> Result<Found<'m>, AllocError>
+        ensures { IfOk result (λ x. x ≡ next act self.now) }
     {
-        for act in acts {
-            self.go_on(Act(*act))?;
+        let mut x = self.copy(alloc)?;
+        match x.go_on(act) {
+            Ok(()) => Ok(x),
+            Err(_) => Err(AllocError),
         }
-        Ok(())
     }
 
     /// Steps of these activities, the last of which stands first, and private steps behind each.
@@ -109,12 +130,7 @@ pub fn beginning<'m>(alloc: Global, start: &Core<'m>) -> Result<Found<'m>, Alloc
     requires { start.now.world.steps ≡ 0 }
     ensures { IfOk result (λ x. x ≡ first_found start.now) }
 {
-    let core = Core::open(alloc, start.module(), start.arguments())?;
-    let mut first = Found {
-        core,
-        printed: Vec::new(alloc),
-        schedule: Vec::new(alloc),
-    };
+    let mut first = Found::open(alloc, start)?;
     match first.settle() {
         Ok(()) => Ok(first),
         Err(_) => Err(AllocError),

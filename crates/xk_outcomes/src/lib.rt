@@ -2,6 +2,7 @@
 #![tactic(auto)]
 
 mod all_outcomes;
+mod checkpoint;
 mod entries;
 mod found;
 mod listed;
@@ -11,6 +12,7 @@ mod order;
 mod paths;
 mod plain_runs;
 mod private_steps;
+mod run;
 mod search;
 
 pub use all_outcomes::{Limit, explored_in, listed_in, outcome_sets, outcomes, outcomes_as};

@@ -9,12 +9,12 @@ ghost use Rattle.xk_outcomes.specs.Outcomes.{AreDistinct, IsListed};
 ghost use Rattle.xk_outcomes.specs.Listing.{AreNoted, AreOf, IsOf, KeepsListed};
 ghost use Rattle.xk_outcomes.specs.Numbering.{IsAddedAs};
 ghost use Rattle.xk_outcomes.specs.Rising.{ordered};
-ghost use Rattle.xk_outcomes.specs.Search.{IsFound};
+ghost use Rattle.xk_outcomes.specs.Search.{IsFoundBy};
 
 use crate::entries::Entries;
-use crate::found::Found;
 use crate::listed::Listed;
 use crate::order::{Order, ordered};
+use crate::run::Run;
 use std::alloc::{AllocError, Global};
 use xk_types::Entry;
 
@@ -53,37 +53,38 @@ fn log_of(alloc: Global, schedule: &[u32]) -> Result<Vec<Entry>, AllocError>
     Ok(log)
 }
 
-/// What is to be listed of one that was found.
-fn outcome_of(alloc: Global, order: Order, x: &Found<'_>) -> Result<Outcome, AllocError>
-    requires { all_ended x.now.core.world ≡ true }
-    ensures { IfOk result (IsOf order x.now) }
+/// What is to be listed of a run.
+fn outcome_of(alloc: Global, order: Order, run: &Run<'_>) -> Result<Outcome, AllocError>
+    requires { all_ended run.now.to.core.world ≡ true }
+    ensures { IfOk result (IsOf order run.now.schedule.items run.now.to) }
 {
-    let numbers = ordered(alloc, order, &x.printed)?;
-    let log = log_of(alloc, &x.schedule)?;
+    let numbers = ordered(alloc, order, &run.to.printed)?;
+    let log = log_of(alloc, &run.schedule)?;
     Ok(Outcome { numbers, log })
 }
 
-/// Lists what one that was found printed, if all have ended in it and it is listed already or fewer are than the limit says. Whether it is
+/// Lists what a run printed, if all have ended where it leads and it is listed already or fewer are than the limit says. Whether it is
 /// listed then, or isn't to be.
 pub(crate) fn note(
     alloc: Global,
     order: Order,
     list: &mut Listed,
-    x: &Found<'_>,
+    run: &Run<'_>,
     limit: usize,
 ) -> Result<bool, AllocError>
     ensures distinct { AreDistinct list.old → AreDistinct list.new }
     ensures kept { KeepsListed list.old list.new }
-    ensures listed { IfOk result (λ noted. noted ≡ true → all_ended x.now.core.world ≡ true
-        → IsListed list.new (ordered order x.now.printed)) }
+    ensures listed { IfOk result (λ noted. noted ≡ true → all_ended run.now.to.core.world ≡ true
+        → IsListed list.new (ordered order run.now.to.printed)) }
     ensures full { IfOk result (λ noted. noted ≡ false → limit ≤ length list.new) }
-    ensures of { (start : CoreValue) (old : List AnOutcome) → IsFound start x.now
+    ensures of { (start : CoreValue) (old : List AnOutcome)
+        → IsFoundBy start run.now.schedule.items run.now.to
         → AreOf order start old list.old → AreOf order start old list.new }
     ensures most { length list.new ≤ max limit (length list.old) }
-    ensures each { IsAddedAs (ordered order x.now.printed) list.old list.new }
+    ensures each { IsAddedAs (ordered order run.now.to.printed) list.old list.new }
 {
-    if x.core.ended() {
-        let new = outcome_of(alloc, order, x)?;
+    if run.to.core.ended() {
+        let new = outcome_of(alloc, order, run)?;
         list.put_within(new, limit)
     } else {
         Ok(true)
@@ -110,10 +111,11 @@ fn note_at(
         → AreOf order all.now.start old list.new }
     ensures most { length list.new ≤ max limit (length list.old) }
 {
-    // For `of`: those are found.
-    let _count = all.len();
-    let x = all.get(alloc, number)?;
-    note(alloc, order, list, &x, limit)
+    if !all.is_over(number) {
+        return Ok(true);
+    }
+    let run = all.run_to(alloc, number)?;
+    note(alloc, order, list, &run, limit)
 }
 
 /// Lists what those print that were found and in which all have ended, each list of numbers once, behind what is listed, until one

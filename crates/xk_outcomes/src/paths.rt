@@ -39,8 +39,8 @@ fn note_reading(
     ensures each { IsPlayed all.now.start reading.now.acts.items reading.now.numbers.items
         → IsAddedAs reading.now.numbers.items list.old list.new }
 {
-    let x = all.led(alloc, &reading.acts)?;
-    note(alloc, Order::Printed, list, &x, limit)
+    let run = all.led(alloc, &reading.acts)?;
+    note(alloc, Order::Printed, list, &run, limit)
 }
 
 /// The same of each reading, until one isn't listed and as many are as the limit says. Whether all are.

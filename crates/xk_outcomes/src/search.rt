@@ -1,9 +1,10 @@
 //! The search, in breadth: what stands before an index has been looked at, and what is new goes to the end.
 
 ghost use Rattle.std.specs.Prelude.{◌≡◌, ◌<◌, ◌≤◌, ℕ, true, false, length, slice_get, IfOk, OnOk, Some};
+ghost use Rattle.xk_types.specs.Schedule.{is_enabled};
 ghost use Rattle.xk_liveness.specs.Liveness.{IsLiveness};
 ghost use Rattle.xk_outcomes.specs.Alikeness.{live_by};
-ghost use Rattle.xk_outcomes.specs.Found.{FoundValue, first_found};
+ghost use Rattle.xk_outcomes.specs.Found.{FoundValue, first_found, next};
 ghost use Rattle.xk_outcomes.specs.Links.{AreLinked};
 ghost use Rattle.xk_outcomes.specs.Search.{AreAllFound, AreAtRest, AreDifferent, AreExpanded, AreFound};
 ghost use Rattle.xk_outcomes.specs.Search.{HasAfter, IsExpanded, IsGrown, is_tried};
@@ -35,14 +36,54 @@ fn behind(before: &[i64], all: &[i64]) -> Option<i64>
     all.get(before.len()).copied()
 }
 
-/// Adds what a step of the activity leads to from here, the one of a number, if it can take one and none like that is there yet; and
-/// the link to it.
-fn try_act(
+/// Adds what a step of the activity leads to from here, the one of a number, if none like that is there yet; and the link to it. The
+/// number of the one that is.
+fn link_after(
     alloc: Global,
     all: &mut Entries<'_>,
     links: &mut Vec<Edge>,
     number: usize,
     here: &Found<'_>,
+    act: Act,
+    new: &Found<'_>,
+) -> Result<usize, AllocError>
+    requires there { slice_get all.old.all number ≡ Some here.now }
+    requires enabled { is_enabled here.now.core.module_run here.now.core.world act ≡ true }
+    requires after { new.now ≡ next act here.now }
+    ensures start { all.new.start ≡ all.old.start }
+    ensures like { all.new.like ≡ all.old.like }
+    ensures grown { IsGrown all.old.all all.new.all }
+    ensures more { IsGrown links.old.items links.new.items }
+    ensures linked { OnOk result (AreLinked (live_by all.old.like) here.now.core.module_run
+        all.old.all links.old.items → AreLinked (live_by all.new.like) here.now.core.module_run
+        all.new.all links.new.items) }
+    ensures after { OnOk result (HasAfter here.now.core.module_run all.new.like
+        all.new.all links.new.items number here.now act) }
+    ensures new { IfOk result (λ to. length all.old.all ≤ to
+        → slice_get all.new.all to ≡ Some new.now) }
+{
+    // For the law that private steps print nothing: the module is accepted.
+    let _activities = here.core.activities();
+    links.reserve(1)?;
+    let printed = behind(&here.printed, &new.printed);
+    let to = all.add(alloc, number, act, new)?;
+    links.push_reserved(Edge {
+        from: number,
+        act: act.0,
+        printed,
+        to,
+    });
+    Ok(to)
+}
+
+/// Adds what a step of the activity leads to from here, the one of a number, if it can take one and none like that is there yet; and
+/// the link to it.
+fn try_act<'m>(
+    alloc: Global,
+    all: &mut Entries<'m>,
+    links: &mut Vec<Edge>,
+    number: usize,
+    here: &Found<'m>,
     act: Act,
 ) -> Result<(), AllocError>
     requires { slice_get all.old.all number ≡ Some here.now }
@@ -56,22 +97,16 @@ fn try_act(
     ensures after { OnOk result (HasAfter here.now.core.module_run all.new.like
         all.new.all links.new.items number here.now act) }
 {
-    // For the law that private steps print nothing: the module is accepted.
-    let _activities = here.core.activities();
     if !here.core.enabled(act) {
         return Ok(());
     }
-    links.reserve(1)?;
-    let next = all.successor(alloc, number, act)?;
-    let printed = behind(&here.printed, &next.printed);
-    let to = all.add(alloc, number, act, &next)?;
-    links.push_reserved(Edge {
-        from: number,
-        act: act.0,
-        printed,
-        to,
-    });
-    Ok(())
+    let count = all.len();
+    let next = here.after(alloc, act)?;
+    let to = link_after(alloc, all, links, number, here, act, &next)?;
+    if to < count {
+        return Ok(());
+    }
+    all.keep(to, next)
 }
 
 /// Whether the steps of the activity are tried: it is one of these, if they are told.
@@ -82,12 +117,12 @@ fn is_tried(members: &[bool], act: Act) -> bool
 }
 
 /// The same if steps of the activity are tried.
-fn try_one(
+fn try_one<'m>(
     alloc: Global,
-    all: &mut Entries<'_>,
+    all: &mut Entries<'m>,
     links: &mut Vec<Edge>,
     number: usize,
-    here: &Found<'_>,
+    here: &Found<'m>,
     members: &[bool],
     act: Act,
 ) -> Result<(), AllocError>
@@ -110,12 +145,12 @@ fn try_one(
 }
 
 /// Adds what the steps lead to from here, the one of a number, that are tried.
-fn look_by(
+fn look_by<'m>(
     alloc: Global,
-    all: &mut Entries<'_>,
+    all: &mut Entries<'m>,
     links: &mut Vec<Edge>,
     number: usize,
-    here: &Found<'_>,
+    here: &Found<'m>,
     members: &[bool],
 ) -> Result<(), AllocError>
     requires { slice_get all.old.all number ≡ Some here.now }
@@ -137,13 +172,13 @@ fn look_by(
 }
 
 /// Adds what the steps of a closed set lead to from here, the one of a number, or each step.
-fn look(
+fn look<'m>(
     alloc: Global,
     footprints: &Footprints<'_>,
-    all: &mut Entries<'_>,
+    all: &mut Entries<'m>,
     links: &mut Vec<Edge>,
     number: usize,
-    here: &Found<'_>,
+    here: &Found<'m>,
 ) -> Result<(), AllocError>
     requires there { slice_get all.old.all number ≡ Some here.now }
     requires footprints { footprints.now.module_run ≡ here.now.core.module_run }
@@ -164,10 +199,10 @@ fn look(
 }
 
 /// Adds what the steps of a closed set, or all, lead to from the one of a number.
-fn expand(
+fn expand<'m>(
     alloc: Global,
     footprints: &Footprints<'_>,
-    all: &mut Entries<'_>,
+    all: &mut Entries<'m>,
     links: &mut Vec<Edge>,
     number: usize,
 ) -> Result<(), AllocError>
@@ -191,10 +226,10 @@ fn expand(
 }
 
 /// Goes on until nothing is left to look at, or more are kept than the limit says. Whether nothing is left.
-fn search(
+fn search<'m>(
     alloc: Global,
     footprints: &Footprints<'_>,
-    all: &mut Entries<'_>,
+    all: &mut Entries<'m>,
     links: &mut Vec<Edge>,
     limit: usize,
 ) -> Result<bool, AllocError>

@@ -24,7 +24,8 @@ pub returns-clause-shown : goal.returns-clause-shown
 returns-clause-shown c =
     let m = c.args.verified.now in
     let args = c.args.arguments.now in
-    let of = subst (λ (s : CoreValue). AreOf c.args.order s c.note_plain.new.list c.list_found.new.list) c.requires.explored.begun c.list_found.ensures.of in
+    let of = subst (λ (s : CoreValue). AreOf c.args.order s c.note_plain.new.list c.list_found.new.list) c.requires.explored.begun
+    c.list_found.ensures.of in
     subst (λ (list : List Outcome). AreShownIn c.args.order m args list) (sym c.in_ok-list.ensures)
     (all_shown c.args.order m args c.note_plain.new.list c.list_found.new.list
     (more_of_none c.args.order m args plain_runs c.new-listed.result c.note_plain.new.list c.new-listed.ensures
@@ -82,8 +83,8 @@ returns-clause-kept c =
     let most = c.args.limit.outcomes in
     let x = c.args.explored.now in
     let is = c.requires.explored in
-    let kept = all_kept c.args.order x.found.like is.told m args most x.found.all x.links.items c.list_found.new.list c.in_ok-all.all is.found is.linked is.liveness
-    is.rest is.different c.in_ok-all.ensures.met c.in_ok-all.ensures.limit in
+    let kept = all_kept c.args.order x.found.like is.told m args most x.found.all x.links.items c.list_found.new.list c.in_ok-all.all
+    is.found is.linked is.liveness is.rest is.different c.in_ok-all.ensures.met c.in_ok-all.ensures.limit in
     subst (HasKeptIn c.args.order m args most c.in_ok-list.list.items) (sym c.len.ensures.count)
     (subst (λ (list : List Outcome). HasKeptIn c.args.order m args most list (length x.found.all)) (sym c.in_ok-list.ensures) kept)
 

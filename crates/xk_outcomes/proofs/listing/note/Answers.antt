@@ -1,7 +1,7 @@
 use Rattle.std.proofs.Common.{◌∙◌, inl, ap, refl, sym, subst, true≢false}
 use Rattle.std.proofs.lemmas.Result.{IfOk-weaker}
 use Rattle.xk_types.specs.Schedule.{all_ended}
-use Rattle.xk_outcomes.specs.Found.{FoundValue}
+use Rattle.xk_outcomes.specs.declared.run.Run.{Run}
 use Rattle.xk_outcomes.specs.Outcomes.{IsListed}
 use Rattle.xk_outcomes.proofs.ListingLemmas.{added_as, of_either}
 use Rattle.xk_outcomes.proofs.listing.note.Goals as goal
@@ -29,7 +29,7 @@ returns-in_ok-new-clause-listed c =
 
 pub returns-in_ok-new-clause-of : goal.returns-in_ok-new-clause-of
 returns-in_ok-new-clause-of c start old found before =
-    of_either c.args.order start old c.args.x.now c.args.list.now c.put_within.new.self c.in_ok-new.new c.put_within.ensures.each found
+    of_either c.args.order start old c.args.run.now.schedule.items c.args.run.now.to c.args.list.now c.put_within.new.self c.in_ok-new.new c.put_within.ensures.each found
     c.in_ok-new.ensures before
 
 pub returns-else-ended-clause-distinct : goal.returns-else-ended-clause-distinct
@@ -40,7 +40,7 @@ returns-else-ended-clause-kept c numbers h = h
 
 pub returns-else-ended-clause-listed : goal.returns-else-ended-clause-listed
 returns-else-ended-clause-listed c noted done =
-    absurd (true≢false (sym done ∙ (ap (λ (x : FoundValue). all_ended x.core.world) (sym c.x.view_is) ∙ (sym c.ended.ensures
+    absurd (true≢false (sym done ∙ (ap (λ (r : Run). all_ended r.to.core.world) (sym c.run.view_is) ∙ (sym c.ended.ensures
     ∙ c.if-ended.false))))
 
 pub returns-else-ended-clause-of : goal.returns-else-ended-clause-of

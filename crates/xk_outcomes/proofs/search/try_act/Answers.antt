@@ -1,71 +1,26 @@
-use Rattle.std.proofs.Common.{◌≡◌, ◌∙◌, ◌++◌, ◌∷◌, [], ℕ, List, ap, refl, subst, true, sym, length, slice_get}
-use Rattle.std.specs.Option.{option_to_list}
-use Rattle.xk_types.specs.Acceptance.{IsAccepted}
-use Rattle.xk_types.specs.Code.{IsWithinLimits}
-use Rattle.xk_types.specs.Schedule.{is_enabled}
-use Rattle.xk_readings.specs.declared.edge.Edge.{Edge}
-use Rattle.xk_outcomes.specs.Found.{FoundValue, next}
-use Rattle.xk_outcomes.specs.Links.{AreLinked, HasLink}
+use Rattle.std.proofs.Common.{◌≡◌, Err, Ok, Result, Some, slice_get, subst, sym}
+use Rattle.std.specs.Prelude.{OnOk}
+use Rattle.xk_outcomes.specs.Alikeness.{live_by}
+use Rattle.xk_outcomes.specs.Entries.{EntriesValue}
+use Rattle.xk_outcomes.specs.Links.{AreLinked}
 use Rattle.xk_outcomes.specs.Search.{HasAfter}
-use Rattle.xk_outcomes.specs.Alikeness.{Alikeness, live_by}
-use Rattle.xk_outcomes.proofs.FoundLemmas.{after_next, next_prints, one_behind}
-use Rattle.xk_outcomes.proofs.SearchLemmas.{added_link, added_there, grown_push, linked_push}
 use Rattle.xk_outcomes.proofs.search.try_act.Goals as goal
 
-pub returns-clause-more : goal.returns-clause-more
-returns-clause-more c =
-    let old = c.args.links.now.items in
-    let l : Edge = record { from = c.args.number; act = c.args.act; printed = c.behind-printed.result; to = c.in_ok-to.to } in
-    grown_push old c.push_reserved.new.self.items l (c.push_reserved.ensures.items
-    ∙ ap (λ (e : List Edge). e ++ record { from = c.args.number; act = c.act.inside.0; printed = c.behind-printed.result; to = c.in_ok-to.to } ∷ []) c.reserve.ensures.items
-    ∙ ap (λ (a : ℕ). old ++ record { from = c.args.number; act = a; printed = c.behind-printed.result; to = c.in_ok-to.to } ∷ []) c.act.view_is)
+-- what is so anyway
+anyway : {T E P : Type 0} (r : Result T E) → P → OnOk r P
+anyway (Ok x) p = p
+anyway (Err e) p = tt
+
+pub returns-clause-grown : goal.returns-clause-grown
+returns-clause-grown c k x there =
+    subst (λ (e : EntriesValue). slice_get e.all k ≡ Some x) (sym c.keep.ensures) (c.link_after.ensures.grown k x there)
 
 pub returns-clause-linked : goal.returns-clause-linked
-returns-clause-linked c linked =
-    let here = c.args.here.now in
-    let m = here.core.module_run in
-    let same : c.here.inside.core.module_run ≡ m = ap (λ (x : FoundValue). x.core.module_run) c.here.view_is in
-    let core = c.activities-activities.ensures.core in
-    let before : c.deref.result.now ≡ here.printed = c.deref.ensures.value ∙ ap (λ (x : FoundValue). x.printed) c.here.view_is in
-    let after : c.deref-2.result.now ≡ c.in_ok-next.next.printed = c.deref-2.ensures.value
-    ∙ ap (λ (x : FoundValue). x.printed) c.next.view_is in
-    let old = c.args.links.now.items in
-    let l : Edge = record { from = c.args.number; act = c.args.act; printed = c.behind-printed.result; to = c.in_ok-to.to } in
-    let is : c.in_ok-next.next ≡ next c.args.act here = c.in_ok-next.ensures here c.requires in
-    let enabled : is_enabled m here.core.world c.args.act ≡ true =
-    ap (λ (x : FoundValue). is_enabled x.core.module_run x.core.world c.args.act) (sym c.here.view_is) ∙ sym c.enabled.ensures
-    ∙ c.if-not-enabled.false in
-    let p = next_prints m (subst IsWithinLimits same core.limits) (subst IsAccepted same core.accepted) here c.args.act refl enabled in
-    let all_printed : c.in_ok-next.next.printed ≡ here.printed ++ option_to_list p.0 = ap (λ (x : FoundValue). x.printed) is ∙ p.1 in
-    let said : c.behind-printed.result ≡ p.0 =
-    c.behind-printed.ensures ∙ ap (λ ns. slice_get c.deref-2.result.now (length ns)) before
-    ∙ ap (λ ns. slice_get ns (length here.printed)) (after ∙ all_printed) ∙ one_behind here.printed p.0 in
-    subst (λ (o : Alikeness). AreLinked (live_by o) m c.add.new.self.all c.push_reserved.new.self.items) (sym c.in_ok-to.ensures.like)
-    (linked_push m c.args.all.now.like c.args.all.now.all c.add.new.self.all old c.push_reserved.new.self.items l here c.in_ok-next.next linked c.requires is enabled
-    (all_printed ∙ ap (λ o. here.printed ++ option_to_list o) (sym said)) c.in_ok-to.ensures.added
-    (c.push_reserved.ensures.items
-    ∙ ap (λ (e : List Edge). e ++ record { from = c.args.number; act = c.act.inside.0; printed = c.behind-printed.result; to = c.in_ok-to.to } ∷ []) c.reserve.ensures.items
-    ∙ ap (λ (a : ℕ). old ++ record { from = c.args.number; act = a; printed = c.behind-printed.result; to = c.in_ok-to.to } ∷ []) c.act.view_is))
+returns-clause-linked c = anyway c.keep.result (λ before.
+    subst (λ (e : EntriesValue). AreLinked (live_by e.like) c.args.here.now.core.module_run e.all c.link_after.new.links.items) (sym c.keep.ensures)
+    (c.in_ok-to.ensures.linked before))
 
 pub returns-clause-after : goal.returns-clause-after
-returns-clause-after c =
-    let here = c.args.here.now in
-    let m = here.core.module_run in
-    let same : c.here.inside.core.module_run ≡ m = ap (λ (x : FoundValue). x.core.module_run) c.here.view_is in
-    let core = c.activities-activities.ensures.core in
-    let before : c.deref.result.now ≡ here.printed = c.deref.ensures.value ∙ ap (λ (x : FoundValue). x.printed) c.here.view_is in
-    let after : c.deref-2.result.now ≡ c.in_ok-next.next.printed = c.deref-2.ensures.value
-    ∙ ap (λ (x : FoundValue). x.printed) c.next.view_is in
-    let old = c.args.links.now.items in
-    let like = c.args.all.now.like in
-    let l : Edge = record { from = c.args.number; act = c.args.act; printed = c.behind-printed.result; to = c.in_ok-to.to } in
-    let one = c.push_reserved.ensures.items
-    ∙ ap (λ (e : List Edge). e ++ record { from = c.args.number; act = c.act.inside.0; printed = c.behind-printed.result; to = c.in_ok-to.to } ∷ []) c.reserve.ensures.items
-    ∙ ap (λ (a : ℕ). old ++ record { from = c.args.number; act = a; printed = c.behind-printed.result; to = c.in_ok-to.to } ∷ []) c.act.view_is in
-    let there = added_there like c.args.all.now.all c.add.new.self.all c.in_ok-next.next c.in_ok-to.to c.in_ok-to.ensures.added in
-    let said = c.behind-printed.ensures ∙ ap (λ ns. slice_get c.deref-2.result.now (length ns)) before
-    ∙ ap (λ ns. slice_get ns (length here.printed)) after in
-    let link = subst (λ o. HasLink c.push_reserved.new.self.items c.args.number o c.in_ok-to.to) said (added_link old c.push_reserved.new.self.items l one) in
-    subst (λ (o : Alikeness). HasAfter m o c.add.new.self.all c.push_reserved.new.self.items c.args.number here c.args.act) (sym c.in_ok-to.ensures.like)
-    (after_next m (subst IsWithinLimits same core.limits) (subst IsAccepted same core.accepted) like c.add.new.self.all c.push_reserved.new.self.items c.args.number
-    c.in_ok-to.to here c.in_ok-next.next c.args.act refl (c.in_ok-next.ensures here c.requires) there link)
+returns-clause-after c = anyway c.keep.result
+    (subst (λ (e : EntriesValue). HasAfter c.args.here.now.core.module_run e.like e.all c.link_after.new.links.items c.args.number c.args.here.now c.args.act)
+    (sym c.keep.ensures) c.in_ok-to.ensures.after)

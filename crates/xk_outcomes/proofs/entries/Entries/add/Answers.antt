@@ -30,7 +30,8 @@ invariant_of-self-2 c =
     let found : IsFound c.args.self.now.start new =
     subst (λ (e : EntriesValue). IsFound e.start new) c.self.view_is (new_found start edges c.args.from c.args.act x new there c.requires.2) in
     let digest = c.in_ok-push.ensures.more ∙ ap (λ (d : ℕ). digests ++ d ∷ []) c.in_ok-digest.ensures in
-    entries_push start like edges c.push_reserved.new.self.items digests c.push.new.self over c.push_reserved-2.new.self.items edge x new c.self.invariant more
+    entries_push start like edges c.push_reserved.new.self.items digests c.push.new.self over c.push_reserved-2.new.self.items c.self.inside.checkpoints.items edge x
+    new c.self.invariant more
     digest still there c.requires.2
     (λ has. subst (λ o. IfNone o (Has c.args.self.now.like c.args.self.now.all new.core.world new.printed → ⊥)) c.in-None.is
     (c.in_ok-known.ensures.no found) (subst (λ (e : EntriesValue). Has e.like e.all new.core.world new.printed) c.self.view_is has))

@@ -1,8 +1,8 @@
 use Rattle.std.proofs.Common.{◌≡◌, ◌∙◌, ◌<◌, length, get_or, slice_get, Some, ap, arith, subst, sym}
-use Rattle.std.proofs.lemmas.Option.{slice_get-get_or}
+use Rattle.std.proofs.lemmas.Option.{get_or_from_slice_get, slice_get-get_or}
 use Rattle.xk_outcomes.specs.Entries.{EntriesValue, led_by}
 use Rattle.xk_outcomes.specs.Found.{along, first_found}
-use Rattle.xk_outcomes.proofs.EntriesLemmas.{first_led, many_led, way_more}
+use Rattle.xk_outcomes.proofs.EntriesLemmas.{many_led, way_more}
 use Rattle.xk_outcomes.proofs.entries.Entries.way_to.Goals as goal
 
 pub loop-at-init : goal.loop-at-init
@@ -12,17 +12,17 @@ loop-at-init c =
     let inside : c.args.number < length (led_by c.self.inside.start edges) = subst (λ (e : EntriesValue). c.args.number < length e.all) (sym c.self.view_is) c.requires in
     record {
       within = omega (arith, many, inside);
-      leads = ap (λ l. along l (get_or (led_by c.self.inside.start edges) c.args.number (first_found c.self.inside.start))) c.new-way.ensures.items;
+      leads = ap (λ l. along l (get_or (led_by c.self.inside.start edges) c.args.number (first_found c.self.inside.start))) c.new-acts.ensures.items;
     }
 
 pub loop-at-smaller : goal.loop-at-smaller
 loop-at-smaller c =
-    (way_more c.self.inside.start c.self.inside.edges.items c.loop-at.at c.index-edge.result.now c.loop-at.way.items c.push.new.self.items c.self.invariant.behind
+    (way_more c.self.inside.start c.self.inside.edges.items c.loop-at.at c.index-edge.result.now c.loop-at.acts.items c.push.new.self.items c.self.invariant.behind
     c.loop-at.invariant.within c.loop-at-test.true c.index-edge.ensures c.in_ok-push.ensures.items).0
 
 pub loop-at-preserved : goal.loop-at-preserved
 loop-at-preserved c =
-    let more = way_more c.self.inside.start c.self.inside.edges.items c.loop-at.at c.index-edge.result.now c.loop-at.way.items c.push.new.self.items c.self.invariant.behind
+    let more = way_more c.self.inside.start c.self.inside.edges.items c.loop-at.at c.index-edge.result.now c.loop-at.acts.items c.push.new.self.items c.self.invariant.behind
     c.loop-at.invariant.within c.loop-at-test.true c.index-edge.ensures c.in_ok-push.ensures.items in
     let less = more.0 in
     let within = c.loop-at.invariant.within in
@@ -31,14 +31,14 @@ loop-at-preserved c =
       leads = more.1 ∙ c.loop-at.invariant.leads;
     }
 
-pub returns : goal.returns
-returns c =
+pub returns-clause-leads : goal.returns-clause-leads
+returns-clause-leads c x there =
     let start = c.self.inside.start in
     let edges = c.self.inside.edges.items in
     let all = led_by start edges in
-    let way = c.loop-at.way.items in
+    let way = c.loop-at.acts.items in
     let inside : c.args.number < length all = subst (λ (e : EntriesValue). c.args.number < length e.all) (sym c.self.view_is) c.requires in
-    let at : c.loop-at.at ≡ 0 = omega (arith, c.loop-at-test.false) in
-    subst (λ (e : EntriesValue). slice_get e.all c.args.number ≡ Some (along way (first_found e.start))) c.self.view_is
-    (slice_get-get_or all c.args.number (first_found start) inside
-    ∙ ap Some (sym c.loop-at.invariant.leads ∙ ap (along way) (ap (λ k. get_or all k (first_found start)) at ∙ first_led start edges)))
+    let from : get_or all c.loop-at.at (first_found start) ≡ x =
+    get_or_from_slice_get all c.loop-at.at x (first_found start) (subst (λ (e : EntriesValue). slice_get e.all c.loop-at.at ≡ Some x) (sym c.self.view_is) there) in
+    subst (λ (e : EntriesValue). slice_get e.all c.args.number ≡ Some (along way x)) c.self.view_is
+    (slice_get-get_or all c.args.number (first_found start) inside ∙ ap Some (sym c.loop-at.invariant.leads ∙ ap (along way) from))

@@ -7,7 +7,7 @@ use Rattle.xk_outcomes.proofs.entries.Entries.way_to.Given as goal
 abbrev pub invariant-loop-at : goal.invariant-loop-at
 invariant-loop-at l = record {
   within : l.at ≤ length l.self-inside.edges.items;
-  leads : along l.way.items (get_or (led_by l.self-inside.start l.self-inside.edges.items) l.at (first_found l.self-inside.start))
+  leads : along l.acts.items (get_or (led_by l.self-inside.start l.self-inside.edges.items) l.at (first_found l.self-inside.start))
       ≡ get_or (led_by l.self-inside.start l.self-inside.edges.items) l.number (first_found l.self-inside.start);
 }
 
