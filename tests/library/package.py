@@ -118,7 +118,7 @@ def searches() -> None:
     want("outcomes", (len(found.all), found.complete), (4, True))
     want("count", x10clock.count(IN_STEP), x10clock.Count(4, True))
     want("a count that isn't all", x10clock.count(RACING, limit=1).complete, False)
-    want("at once", list(x10clock.widening(IN_STEP, limit=5)), [x10clock.Searched(5, x10clock.Count(4, True))])
+    want("at once", list(x10clock.widening(IN_STEP, limit=500)), [x10clock.Searched(500, x10clock.Count(4, True))])
     worlds = [found.worlds for found in x10clock.widening(UNEQUAL, limit=30_000)]
     want("up to the limit", worlds, [10_000, 20_000, 30_000])
     searching()

@@ -468,8 +468,8 @@ class Calls:
             yield self.on_log(["page", "--path"], name, text, spanned + to_mark(steps) + to_draw(seen))
 
     def of_searches(self) -> Iterator[Call]:
-        """Many steps lead from each world to the next; as many worlds are kept whole as there is room for. Somewhat more
-        worlds than a power of two."""
+        """Many steps lead from each world to the next; as many worlds are kept whole as there is room for. Somewhat
+        more worlds than a power of two."""
         for name, writers, turns, worlds in (("three writers", 3, 25, 17_000), ("seven writers", 7, 4, 9_000)):
             steps = f"for(i in 1..{turns}){{for(j in 1..1100);x=k;}}"
             text = f"shared x=0;def main(){{finish for(k in 1..{writers})async{{{steps}}}}}"

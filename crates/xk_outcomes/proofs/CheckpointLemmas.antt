@@ -8,7 +8,8 @@ use Rattle.xk_outcomes.specs.Checkpoints.{AreCheckpoints, IsCheckpoint}
 use Rattle.xk_outcomes.specs.Found.{FoundValue}
 
 -- where the first one alone is found, and kept
-pub checkpoints_first : (x : FoundValue) (list : List Checkpoint) (c : Checkpoint) → list ≡ c ∷ [] → c.number ≡ 0 → c.found ≡ x
+pub checkpoints_first : (x : FoundValue) (list : List Checkpoint) (c : Checkpoint) → list ≡ c ∷ [] → c.number ≡ 0
+    → c.found ≡ x
     → AreCheckpoints (x ∷ []) list
 checkpoints_first x list c alone begins is = record {
   first = c;
@@ -20,7 +21,8 @@ checkpoints_first x list c alone begins is = record {
     here : IsCheckpoint (x ∷ []) c
     here = ap (slice_get (x ∷ [])) begins ∙ ap Some (sym is)
 
-    by : (i : ℕ) (d : Checkpoint) → (slice_get {X = Checkpoint} [] i ≡ Some d) ⊎ ((i ≡ 0) × (c ≡ d)) → IsCheckpoint (x ∷ []) d
+    by : (i : ℕ) (d : Checkpoint) → (slice_get {X = Checkpoint} [] i ≡ Some d) ⊎ ((i ≡ 0) × (c ≡ d))
+        → IsCheckpoint (x ∷ []) d
     by i d (inl a) = absurd (none-some d a)
     by i d (inr b) = subst (IsCheckpoint (x ∷ [])) b.1 here
 
@@ -35,7 +37,8 @@ checkpoints_grown old new x list one were = record {
 }
 
 -- where one more is kept
-pub checkpoints_push : (all : List FoundValue) (list more : List Checkpoint) (c : Checkpoint) → more ≡ list ++ c ∷ [] → IsCheckpoint all c
+pub checkpoints_push : (all : List FoundValue) (list more : List Checkpoint) (c : Checkpoint) → more ≡ list ++ c ∷ []
+    → IsCheckpoint all c
     → AreCheckpoints all list → AreCheckpoints all more
 checkpoints_push all list more c one is were = record {
   first = were.first;

@@ -21,8 +21,8 @@ use Rattle.xk_readings.proofs.ListLemmas.{place}
 use Rattle.xk_outcomes.proofs.SearchLemmas.{different_push, digests_push, ends_push}
 
 -- what is in a list, or stands for what isn't
-each_or : {X : Type 0} (P : X → Type 0) (xs : List X) (d : X) → ((k : ℕ) (x : X) → slice_get xs k ≡ Some x → P x) → P d → (k : ℕ)
-    → P (get_or xs k d)
+each_or : {X : Type 0} (P : X → Type 0) (xs : List X) (d : X) → ((k : ℕ) (x : X) → slice_get xs k ≡ Some x → P x) → P d
+    → (k : ℕ) → P (get_or xs k d)
 each_or P [] d all here k = here
 each_or P (x ∷ xs) d all here zero = all zero x refl
 each_or P (x ∷ xs) d all here (suc k) = each_or P xs d (λ j. all (suc j)) here k
@@ -99,10 +99,10 @@ edge_leads start edges i e behind there =
     ∙ by_edge (first_found start) (first_found start ∷ []) edges i e there (omega (arith, before))
 
 -- A way that begins at one but the first is the same as one that begins a step further back.
-pub way_more : (start : CoreValue) (edges : List Edge) (at : ℕ) (e : Edge) (way more : List ℕ) → AreBehind edges → at ≤ length edges
-    → 0 < at → e ≡ get_or edges (at - 1) e
-    → more ≡ way ++ e.act ∷ []
-    → (e.from < at) × (along more (get_or (led_by start edges) e.from (first_found start)) ≡ along way (get_or (led_by start edges) at (first_found start)))
+pub way_more : (start : CoreValue) (edges : List Edge) (at : ℕ) (e : Edge) (way more : List ℕ) → AreBehind edges
+    → at ≤ length edges → 0 < at → e ≡ get_or edges (at - 1) e → more ≡ way ++ e.act ∷ []
+    → (e.from < at)
+    × (along more (get_or (led_by start edges) e.from (first_found start)) ≡ along way (get_or (led_by start edges) at (first_found start)))
 way_more start edges at e way more behind within some is longer =
     let there : slice_get edges (at - 1) ≡ Some e = slice_get-get_or edges (at - 1) e (omega (arith, within, some)) ∙ ap Some (sym is) in
     let before = behind (at - 1) e there in
@@ -147,8 +147,9 @@ one_alone a x (suc k) h = absurd (none-some x h)
 pub alone : {X : Type 0} (list old : List X) (x : X) → list ≡ old ++ x ∷ [] → old ≡ [] → list ≡ x ∷ []
 alone list old x more none = more ∙ ap (λ l. l ++ x ∷ []) none
 
-pub entries_first : (start : CoreValue) (like : Alikeness) (edges : List Edge) (digests : List ℕ) (over : List Bool) (checkpoints : List Checkpoint)
-    → start.world.steps ≡ 0 → IsLiveness start.module_run (live_by like) → edges ≡ [] → digests ≡ found_digest like (first_found start) ∷ []
+pub entries_first : (start : CoreValue) (like : Alikeness) (edges : List Edge) (digests : List ℕ) (over : List Bool)
+    → (checkpoints : List Checkpoint) → start.world.steps ≡ 0 → IsLiveness start.module_run (live_by like) → edges ≡ []
+    → digests ≡ found_digest like (first_found start) ∷ []
     → over ≡ all_ended (first_found start).core.world ∷ [] → checkpoints ≡ record { number = 0; found = first_found start } ∷ []
     → AreEntries start like edges digests over checkpoints
 entries_first start like edges digests over checkpoints root liveness none digest ended kept =
@@ -174,8 +175,9 @@ led_push start edges more e x new one there is =
     ∙ ap (λ (y : FoundValue). led_by start edges ++ next e.act y ∷ []) (get_or_from_slice_get (led_by start edges) e.from x (first_found start) there)
     ∙ ap (λ (y : FoundValue). led_by start edges ++ y ∷ []) (sym is)
 
-pub entries_push : (start : CoreValue) (like : Alikeness) (edges more : List Edge) (digests longer : List ℕ) (over still : List Bool) (checkpoints : List Checkpoint)
-    → (e : Edge) (x new : FoundValue) → AreEntries start like edges digests over checkpoints → more ≡ edges ++ e ∷ [] → longer ≡ digests ++ found_digest like new ∷ []
+pub entries_push : (start : CoreValue) (like : Alikeness) (edges more : List Edge) (digests longer : List ℕ)
+    → (over still : List Bool) (checkpoints : List Checkpoint) (e : Edge) (x new : FoundValue)
+    → AreEntries start like edges digests over checkpoints → more ≡ edges ++ e ∷ [] → longer ≡ digests ++ found_digest like new ∷ []
     → still ≡ over ++ all_ended new.core.world ∷ [] → slice_get (led_by start edges) e.from ≡ Some x → new ≡ next e.act x
     → (Has like (led_by start edges) new.core.world new.printed → ⊥) → AreEntries start like more longer still checkpoints
 entries_push start like edges more digests longer over still checkpoints e x new were one digest ended there is fresh =

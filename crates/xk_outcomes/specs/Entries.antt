@@ -32,9 +32,11 @@ first_entry like start = record { start = start; like = like; all = first_found 
 abbrev pub AreBehind : List Edge → Type 0
 AreBehind edges = (k : ℕ) (e : Edge) → slice_get edges k ≡ Some e → e.from ≤ k
 
--- The search starts with a core that has taken no step, in whose module no more slots are live than are told; these are the digests of those that the edges lead to, of which no two are the same; in these
--- all have ended; and these are kept whole.
-pub record AreEntries (start : CoreValue) (like : Alikeness) (edges : List Edge) (digests : List ℕ) (over : List Bool) (checkpoints : List Checkpoint) : Type 0 where
+-- The search starts with a core that has taken no step, in whose module no more slots are live than are told; these are
+-- the digests of those that the edges lead to, of which no two are the same; in these all have ended; and these are
+-- kept whole.
+pub record AreEntries (start : CoreValue) (like : Alikeness) (edges : List Edge) (digests : List ℕ) (over : List Bool)
+    (checkpoints : List Checkpoint) : Type 0 where
   pub root : start.world.steps ≡ 0
   pub liveness : IsLiveness start.module_run (live_by like)
   pub behind : AreBehind edges

@@ -373,8 +373,8 @@ impl<'m> Entries<'m> {
         Ok(None)
     }
 
-    /// Adds what a step of the activity leads to from the one of a number, if none is the same yet. The number of the one that is. Err where
-    /// memory was refused: nothing is added then.
+    /// Adds what a step of the activity leads to from the one of a number, if none is the same yet. The number of the
+    /// one that is. Err where memory was refused: nothing is added then.
     pub fn add(
         &mut self,
         alloc: Global,
