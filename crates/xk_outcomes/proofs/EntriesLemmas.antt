@@ -47,7 +47,8 @@ module _ (first : FoundValue) where
       kept (acc ++ new ∷ []) edges k (omega (arith, one, within)) ∙ get_or_append_left acc (new ∷ []) first k within
 
   by_edge : (acc : List FoundValue) (edges : List Edge) (i : ℕ) (e : Edge) → slice_get edges i ≡ Some e → e.from < length acc + i
-      → get_or (fold (with_edge first) acc edges) (length acc + i) first ≡ next e.act (get_or (fold (with_edge first) acc edges) e.from first)
+      → get_or (fold (with_edge first) acc edges) (length acc + i) first
+        ≡ next e.act (get_or (fold (with_edge first) acc edges) e.from first)
   by_edge acc [] i e there behind = absurd (none-some e there)
   by_edge acc (z ∷ edges) zero e there behind = subst (λ (y : Edge). y.from < length acc + zero → IsEnd y) (same_Some z e there) is behind
     where
@@ -81,7 +82,7 @@ pub many_led : (start : CoreValue) (edges : List Edge) → length (led_by start 
 many_led start edges = let h = many (first_found start) (first_found start ∷ []) edges in omega (arith, h)
 
 -- the first one stays the first
-pub first_led : (start : CoreValue) (edges : List Edge) → get_or (led_by start edges) 0 (first_found start) ≡ first_found start
+first_led : (start : CoreValue) (edges : List Edge) → get_or (led_by start edges) 0 (first_found start) ≡ first_found start
 first_led start edges = kept (first_found start) (first_found start ∷ []) edges 0 (omega arith)
 
 pub first_there : (start : CoreValue) (edges : List Edge) → slice_get (led_by start edges) 0 ≡ Some (first_found start)
@@ -117,7 +118,8 @@ way_more start edges at e way more behind within some is longer =
 -- all that edges lead to are settled
 pub all_settled : (start : CoreValue) (edges : List Edge) → AreSettled start (led_by start edges)
 all_settled start edges =
-    by (first_found start ∷ []) edges (each_push (λ i. IsSettled start) [] (first_found start) (λ k x h. absurd (none-some x h)) (settled_first start))
+    by (first_found start ∷ []) edges
+      (each_push (λ i. IsSettled start) [] (first_found start) (λ k x h. absurd (none-some x h)) (settled_first start))
   where
     by : (acc : List FoundValue) (more : List Edge) → AreSettled start acc
         → AreSettled start (fold (with_edge (first_found start)) acc more)

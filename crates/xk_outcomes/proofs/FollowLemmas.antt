@@ -41,7 +41,8 @@ told_there all k x there ended =
     slice_get-map over all k ∙ ap (option_map over) there ∙ ap Some ended
 
 -- each link leads from one of them to one of them
-pub links_within : (live : SlotTable) (m : ModuleValue) (all : List FoundValue) (links : List Edge) → AreLinked live m all links → IsWithin (graph links (ends all))
+pub links_within : (live : SlotTable) (m : ModuleValue) (all : List FoundValue) (links : List Edge)
+    → AreLinked live m all links → IsWithin (graph links (ends all))
 links_within live m all links linked e there =
     let l = linked.each there.0 e there.1 in
     let many = length-map all (λ (y : FoundValue). all_ended y.core.world) in
@@ -119,7 +120,8 @@ steps_next m x a same enabled =
     let rest = steps_settled (one_more a x) (steps_bound (one_more a x).core.module_run) in
     omega (arith, one, rest)
 
-followed : (m : ModuleValue) (live : SlotTable) → IsLiveness m live → (all : List FoundValue) (links : List Edge) → AreLinked live m all links → ((k : ℕ) (x : FoundValue)
+followed : (m : ModuleValue) (live : SlotTable) → IsLiveness m live → (all : List FoundValue) (links : List Edge)
+    → AreLinked live m all links → ((k : ℕ) (x : FoundValue)
     → slice_get all k ≡ Some x → x.core.module_run ≡ m)
     → (n k : ℕ) (acts : List ℕ) (numbers : List ℤ) (x y : FoundValue) → Reads (graph links (ends all)) n k acts numbers
     → slice_get all k ≡ Some x

@@ -1,6 +1,6 @@
 -- One that was found goes on by a step and by private steps.
 use Rattle.std.proofs.Common.{◌≡◌, ◌∙◌, ℕ, ℤ, zero, suc, ◌+◌, ◌<◌, ◌≤◌, ◌⊎◌, inl, inr, Bool, true, false}
-use Rattle.std.proofs.Common.{List, [], ◌∷◌, ◌++◌, length, Option, Some, None, refl, sym, ap, subst, add-one, arith, slice_get, true≢false}
+use Rattle.std.proofs.Common.{List, [], ◌∷◌, ◌++◌, length, Option, Some, None, refl, sym, ap, subst, add-one, arith, slice_get}
 use Rattle.std.specs.Option.{option_to_list}
 use Rattle.std.proofs.lemmas.List.{append-nil}
 use Rattle.std.proofs.lemmas.Option.{none-some, same_Some}
@@ -10,7 +10,7 @@ use Rattle.xk_types.specs.Bound.{steps_bound}
 use Rattle.xk_types.specs.Code.{ModuleValue, IsWithinLimits}
 use Rattle.xk_types.specs.World.{World}
 use Rattle.xk_types.specs.Step.{Outcome, Blocked, Wrong, Stepped, step}
-use Rattle.xk_types.specs.Schedule.{is_enabled, is_step, number_printed}
+use Rattle.xk_types.specs.Schedule.{is_enabled, number_printed}
 use Rattle.xk_law_schedules.proofs.ReachabilityLemmas.{run_more}
 use Rattle.xk_outcomes.specs.PrivateSteps.{has_private_step}
 use Rattle.xk_law_commute.proofs.QuietStepLaw.{enabled_step}
@@ -76,15 +76,6 @@ pub found_taken : (start : CoreValue) (schedule : List ℕ) (x : FoundValue) (a 
 found_taken start schedule x a f enabled =
     let taken = enabled_step (step x.core.module_run x.core.world a) enabled in
     subst (IsFoundBy start (schedule ++ a ∷ [])) (sym (ap (with_outcome x a) taken.2)) (found_stepped start schedule x a taken.0 taken.1 f taken.2)
-
--- one that can't be taken changes nothing
-pub none_taken : (x : FoundValue) (a : ℕ) → is_enabled x.core.module_run x.core.world a ≡ false → one_more a x ≡ x
-none_taken x a h = by (step x.core.module_run x.core.world a) h
-  where
-    by : (o : Outcome) → is_step o ≡ false → with_outcome x a o ≡ x
-    by Blocked e = refl
-    by (Wrong c) e = refl
-    by (Stepped w e) f = absurd (true≢false f)
 
 found_one_more : (start : CoreValue) (x : FoundValue) (a : ℕ) → IsFound start x → IsFound start (one_more a x)
 found_one_more start x a f = by (step x.core.module_run x.core.world a) refl

@@ -188,7 +188,8 @@ met_unless : (all : Bool) (P : Type 0) (limit n : ℕ) → (all ≡ true → P) 
 met_unless true P limit n is full less = is refl
 met_unless false P limit n is full less = absurd (omega (arith, full refl, less))
 
-pub all_kept : (order : Order) (like : Alikeness) → like.order ≡ order → (m : ModuleValue) (args : List ℤ) (limit : ℕ) (all : List FoundValue) (links : List Edge) (list : List Outcome) (whole : Bool)
+pub all_kept : (order : Order) (like : Alikeness) → like.order ≡ order
+    → (m : ModuleValue) (args : List ℤ) (limit : ℕ) (all : List FoundValue) (links : List Edge) (list : List Outcome) (whole : Bool)
     → AreFound (opening_core m args) all → AreLinked (live_by like) m all links → IsLiveness m (live_by like)
     → AreAtRest all → AreDifferent like all → (whole ≡ true → AreMet order all links list) → (whole ≡ false → limit ≤ length list)
     → HasKeptIn order m args limit list (length all)
