@@ -52,9 +52,9 @@ race_member p names pairs = (codes "races", array_of (race_value p names) pairs)
 
 -- ---- the value
 
--- Whether there is no race: then every schedule prints these numbers (`one_speaks_for_all` of `xk_law_races`). Whether each print of this run
--- comes before the next one: then, where there is no race, every schedule prints them in this order (`ordered_prints`). The lines that are
--- told behind the races. Whether all races are in the list.
+-- Whether there is no race: then every schedule prints these numbers (`one_speaks_for_all` of `xk_law_races`). Whether each print of the
+-- run comes before the next one: then, where there is no race, every schedule prints them in this order (`ordered_prints`). What is told
+-- behind the races. Whether all races are in the list.
 abbrev pub scope_members : Bool → Bool → List ℕ → Bool → Group
 scope_members free in_order closing whole =
     (codes "every_schedule", boolean free)
