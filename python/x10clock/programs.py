@@ -71,12 +71,16 @@ class Count:
 
 @dataclass(frozen=True)
 class Races:
-    """How many races a run has, what is told of them as lines, and the same as an object (docs/FORMATS.md, "As
-    JSON")."""
+    """How many races are told of a run, as lines, and as an object (docs/FORMATS.md, "As JSON"); and whether these are
+    all, else there are more (`whole`). Where there is none, every schedule prints the numbers of this run
+    (`every_schedule`); and in this order, if each of its prints comes before the next one (`prints_in_order`)."""
 
     count: int
     text: str
     told: dict[str, Any]
+    whole: bool
+    every_schedule: bool
+    prints_in_order: bool
 
 
 @dataclass(frozen=True)
@@ -231,7 +235,8 @@ def races(program: Program, *arguments: int, log: Program | None = None) -> Race
     beside, read = ("", b"") if log is None else ("log", log)
     text = _asked(_words("races", program, arguments, beside=beside), program, read).out.decode()
     told = _value(_asked(_words("races", program, arguments, "--json", beside=beside), program, read))
-    return Races(len(told["races"]), text, told)
+    facts = (told["whole"], told["every_schedule"], told["prints_in_order"])
+    return Races(len(told["races"]), text, told, *facts)
 
 
 def where(program: Program, log: Program, *arguments: int, at: int | None = None) -> str:

@@ -113,6 +113,21 @@ def runs() -> None:
     want("every schedule", x10clock.races(IN_STEP).told["every_schedule"], True)
 
 
+def races() -> None:
+    """Whether all races are told, whether there is none, and whether the prints are in one order."""
+
+    def facts(program: x10clock.Program) -> tuple[int, bool, bool, bool]:
+        found = x10clock.races(program)
+        told = tuple(found.told[key] for key in ("whole", "every_schedule", "prints_in_order"))
+        want("facts", (found.whole, found.every_schedule, found.prints_in_order), told)
+        return (found.count, found.whole, found.every_schedule, found.prints_in_order)
+
+    want("two in step", facts(IN_STEP), (0, True, True, False))
+    want("one print", facts(SEVEN), (0, True, True, True))
+    want("an update that is lost", facts(EXAMPLES / "unlucky-schedule.x10"), (3, True, False, True))
+    want("many races", facts(TOP / "tests/program/logs/many-races.x10"), (10_000, False, False, True))
+
+
 def searches() -> None:
     found = x10clock.outcomes(IN_STEP)
     want("outcomes", (len(found.all), found.complete), (4, True))
@@ -262,7 +277,7 @@ def main() -> int:
     folder = built(parser.parse_args().library)
     os.environ["X10CLOCK_LIBRARY"] = str(folder / "libx10clock.so")
     os.environ["PYTHONPATH"] = str(TOP / "python")
-    for part in (checks, runs, searches, steps, threads):
+    for part in (checks, runs, races, searches, steps, threads):
         part()
     with tempfile.TemporaryDirectory() as work:
         classes(pathlib.Path(work))

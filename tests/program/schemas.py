@@ -191,8 +191,13 @@ class Asker:
             told = [line for line in lines if line.startswith("race ")]
             for access, line in zip(accesses, (line for line in lines if line.startswith("step ")), strict=True):
                 self.beside(access, line)
-        if words != told or not out.endswith(value["text"]) or not value["text"].startswith(f"races {len(words)}"):
+        count, *_, scope = value["text"].splitlines()
+        if words != told or not out.endswith(value["text"]):
             raise Wrong(f"tells {words} and {value['text']!r} where `races` tells {told}")
+        if count != f"races {len(words)}{'' if value['whole'] else ' and more'}":
+            raise Wrong(f"says otherwise than {count} whether these are all")
+        if value["every_schedule"] and value["prints_in_order"] != scope.endswith(" in this order"):
+            raise Wrong(f"says otherwise than {scope} whether the prints are in one order")
         if (status == 6) == value["every_schedule"]:
             raise Wrong("says otherwise than its status whether every schedule prints these numbers")
 

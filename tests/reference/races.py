@@ -124,13 +124,21 @@ def step_words(program: Program, taken: Taken) -> str:
     return f"step {taken.number} act {taken.who} {place}"
 
 
-def print_words(program: Program, played: Played, past: dict[int, int]) -> str:
-    """Whether each print comes before the next one."""
+def gap(played: Played, past: dict[int, int]) -> tuple[Taken, Taken] | None:
+    """The first print before which the print just before it needn't have come, and that one first."""
     prints = [taken for taken in played.taken if taken.step.printed is not None]
     for first, second in zip(prints, prints[1:], strict=False):
         if not past[second.number] >> first.number & 1:
-            return f"prints not in one order: {step_words(program, first)}, {step_words(program, second)}\n"
-    return IN_ORDER
+            return first, second
+    return None
+
+
+def print_words(program: Program, between: tuple[Taken, Taken] | None) -> str:
+    """Whether each print comes before the next one, where there is this gap between two."""
+    if between is None:
+        return IN_ORDER
+    first, second = (step_words(program, taken) for taken in between)
+    return f"prints not in one order: {first}, {second}\n"
 
 
 def closing(program: Program, played: Played, past: dict[int, int], count: int) -> str:
@@ -138,7 +146,7 @@ def closing(program: Program, played: Played, past: dict[int, int], count: int) 
     if count:
         counted = f"{count}" if count <= SHOWN else f"{SHOWN} and more"
         return f"races {counted}\nof this run alone\n"
-    prints = print_words(program, played, past)
+    prints = print_words(program, gap(played, past))
     order = " in this order" if prints == IN_ORDER else ""
     return f"races 0\n{prints}every schedule prints these numbers{order}\n"
 

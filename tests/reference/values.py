@@ -97,7 +97,8 @@ def steps(program: Program, played: Played) -> tuple[str, bool]:
 
 
 def racing(program: Program, played: Played) -> tuple[str, bool]:
-    """The races of a run, each by the values of its two steps, and whether it has none; then the lines behind them."""
+    """The races of a run, each by the values of its two steps, and whether it has none; whether these are all, and each
+    print comes before the next one; then the lines behind them."""
     past, teller = races.pasts(played), Teller(program, played)
     pairs = list(races.found(played, past))
     told = [
@@ -106,4 +107,5 @@ def racing(program: Program, played: Played) -> tuple[str, bool]:
         for number, first, second in pairs[: races.SHOWN]
     ]
     text = races.closing(program, played, past, len(pairs))
-    return line_of({"every_schedule": not pairs, "races": told, "text": text}), not pairs
+    facts = {"prints_in_order": races.gap(played, past) is None, "whole": len(pairs) == len(told)}
+    return line_of({"every_schedule": not pairs, "races": told, "text": text} | facts), not pairs

@@ -10,7 +10,7 @@ use Rattle.xk_races.specs.declared.pairs.Race.{Race}
 use Rattle.xk_races.specs.declared.pairs.Gap.{Gap}
 use Rattle.xk_races.specs.Knowledge.{Sight}
 use Rattle.xk_races.specs.Races.{have_same_places, is_race, race, races_from, with_race, with_races_of}
-use Rattle.xk_races.specs.Text.{AreEnough, closing_text, count_line, most_shown, print_line_if_free, scope_line}
+use Rattle.xk_races.specs.Text.{AreEnough, are_all_shown, closing_text, count_line, most_shown, print_line_if_free, scope_line}
 
 -- ---- a list of races only grows
 
@@ -62,21 +62,33 @@ told_first rs all h =
     sym (take-take most_shown (suc most_shown) rs (omega arith)) ∙ ap (take most_shown) h
     ∙ take-take most_shown (suc most_shown) all (omega arith)
 
+least_alike : (rs all : List Race) → AreEnough rs all → min (suc most_shown) (length rs) ≡ min (suc most_shown) (length all)
+least_alike rs all h = sym (length-take (suc most_shown) rs) ∙ ap length h ∙ length-take (suc most_shown) all
+
+-- where they are no more than are shown, they are as many as all
+few_alike : (rs all : List Race) → AreEnough rs all → are_all_shown rs ≡ true → length rs ≡ length all
+few_alike rs all h e = omega (arith, least_alike rs all h, leb-true (length rs) most_shown e)
+
+-- where they are more than are shown, so are all
+many_alike : (rs all : List Race) → AreEnough rs all → are_all_shown rs ≡ false → are_all_shown all ≡ false
+many_alike rs all h e =
+    lt-leb (length all) most_shown (omega (arith, least_alike rs all h, leb-false (length rs) most_shown e))
+
+pub whole_alike : (rs all : List Race) → AreEnough rs all → are_all_shown rs ≡ are_all_shown all
+whole_alike rs all h = of (are_all_shown rs) refl
+  where
+    of : (b : Bool) → are_all_shown rs ≡ b → are_all_shown rs ≡ are_all_shown all
+    of true e = ap (λ n. nat_le n most_shown) (few_alike rs all h e)
+    of false e = e ∙ sym (many_alike rs all h e)
+
 count_alike : (rs all : List Race) → AreEnough rs all → count_line (length rs) ≡ count_line (length all)
 unfolding count_line
-count_alike rs all h = of (nat_le (length rs) most_shown) refl
+count_alike rs all h = of (are_all_shown rs) refl
   where
-    lengths : min (suc most_shown) (length rs) ≡ min (suc most_shown) (length all)
-    lengths = sym (length-take (suc most_shown) rs) ∙ ap length h ∙ length-take (suc most_shown) all
-
-    of : (b : Bool) → nat_le (length rs) most_shown ≡ b → count_line (length rs) ≡ count_line (length all)
-    of true e =
-        let few = leb-true (length rs) most_shown e in
-        let same : length rs ≡ length all = omega (arith, lengths, few) in
-        ap count_line same
+    of : (b : Bool) → are_all_shown rs ≡ b → count_line (length rs) ≡ count_line (length all)
+    of true e = ap count_line (few_alike rs all h e)
     of false e =
-        let many = leb-false (length rs) most_shown e in
-        let so : nat_le (length all) most_shown ≡ false = lt-leb (length all) most_shown (omega (arith, lengths, many)) in
+        let so : nat_le (length all) most_shown ≡ false = many_alike rs all h e in
         rw (e, so) refl
 
 print_alike : (p : PlacesValue) (rs all : List Race) (g : Option Gap) → AreEnough rs all

@@ -1,5 +1,5 @@
 -- What is told of the races of a run. This project's own.
-use Rattle.std.specs.Prelude.{◌≡◌, ℕ, suc, ℤ, nat_le, List, [], ◌∷◌, ◌++◌, length, take, flat_map, codes, decimal, if◌then◌else◌}
+use Rattle.std.specs.Prelude.{◌≡◌, ℕ, suc, ℤ, nat_le, Bool, List, [], ◌∷◌, ◌++◌, length, take, flat_map, codes, decimal, if◌then◌else◌}
 use Rattle.std.specs.Prelude.{Option, Some, None}
 use Rattle.xk_types.specs.declared.world.Entry.{Entry}
 use Rattle.xk_types.specs.Code.{ModuleValue}
@@ -33,6 +33,10 @@ print_line_if_free p (r ∷ rs) g = []
 -- so many races are shown at most, the first ones
 unfoldable pub most_shown : ℕ
 most_shown = 10000
+
+-- these races are no more than are shown: so each is
+abbrev pub are_all_shown : List Race → Bool
+are_all_shown rs = nat_le (length rs) most_shown
 
 -- how many races there are, or that there are more than are shown
 unfoldable pub count_line : ℕ → List ℕ

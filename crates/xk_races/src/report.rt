@@ -3,7 +3,7 @@
 ghost use Rattle.std.specs.Prelude.{◌≡◌, is_none, take, IfOk};
 ghost use Rattle.xk_show_events.specs.Events.{no_text};
 ghost use Rattle.xk_races.specs.Races.{gap_in, is_race_free, races_in, sights_of_run};
-ghost use Rattle.xk_races.specs.Text.{closing_text, most_shown, races_text};
+ghost use Rattle.xk_races.specs.Text.{are_all_shown, closing_text, most_shown, races_text};
 
 use crate::deeds::deeds_of_run;
 use crate::pairs::{Race, gap_in, races_in};
@@ -31,6 +31,10 @@ pub struct ShownRaces {
     pub closing: Vec<u8>,
     /// Whether the run has no race.
     pub free: bool,
+    /// Whether its prints are in one order: each comes before the next one.
+    pub in_order: bool,
+    /// Whether these are all of its races.
+    pub whole: bool,
 }
 
 /// What the races and prints of a run say of all runs.
@@ -82,18 +86,26 @@ pub fn shown_races(
         ended.now.module.now ended.now.core.world.arguments ended.now.log.items))) }
     ensures free { IfOk result (λ s. s.free ≡ is_race_free
         ended.now.module.now ended.now.core.world.arguments ended.now.log.items) }
+    ensures in_order { IfOk result (λ s. s.in_order ≡ is_none (gap_in (sights_of_run
+        ended.now.module.now ended.now.core.world.arguments ended.now.log.items))) }
+    ensures whole { IfOk result (λ s. s.whole ≡ are_all_shown (races_in (sights_of_run
+        ended.now.module.now ended.now.core.world.arguments ended.now.log.items))) }
 {
     let deeds = deeds_of_run(alloc, ended)?;
     let sights = sights_of(alloc, &deeds)?;
     let mut races = races_in(alloc, &sights)?;
     let gap = gap_in(&sights);
     let free = races.is_empty();
+    let in_order = gap.is_none();
+    let whole = races.len() <= most_shown();
     let closing = closing_text(alloc, places, &races, gap)?;
     races.truncate(most_shown());
     Ok(ShownRaces {
         races,
         closing,
         free,
+        in_order,
+        whole,
     })
 }
 

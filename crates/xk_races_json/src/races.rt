@@ -81,15 +81,21 @@ pub(crate) fn put_races(
     object.put(alloc, "races", list)
 }
 
-/// Adds whether every schedule prints these numbers, and what is told behind the races.
+/// Adds whether every schedule prints these numbers, whether the prints are in one order, what is told behind the races,
+/// and whether these are all.
 pub(crate) fn put_scope(
     alloc: Global,
     object: &mut Object,
     free: bool,
+    in_order: bool,
     closing: &[u8],
+    whole: bool,
 ) -> Result<(), AllocError>
-    ensures { OnOk result (Gains (scope_members free closing.now) object.old object.new) }
+    ensures { OnOk result (Gains
+        (scope_members free in_order closing.now whole) object.old object.new) }
 {
     object.put_truth(alloc, "every_schedule", free)?;
-    object.put_bytes(alloc, "text", closing)
+    object.put_truth(alloc, "prints_in_order", in_order)?;
+    object.put_bytes(alloc, "text", closing)?;
+    object.put_truth(alloc, "whole", whole)
 }

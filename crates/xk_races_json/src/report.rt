@@ -36,7 +36,14 @@ fn report_of(
     let pairs = pairs_in(alloc, &shown.races, ended)?;
     let mut object = Object::new(alloc);
     put_races(alloc, &mut object, places, names, &pairs)?;
-    put_scope(alloc, &mut object, shown.free, &shown.closing)?;
+    put_scope(
+        alloc,
+        &mut object,
+        shown.free,
+        shown.in_order,
+        &shown.closing,
+        shown.whole,
+    )?;
     let text = object.line(alloc)?;
     Ok(RaceReport {
         text,
@@ -44,10 +51,12 @@ fn report_of(
     })
 }
 
-/// The races of a run of a source text's module, whose shared numbers have these names, as one JSON value on a line: a list of races, of
-/// each its two accesses as the objects that `events` has of these steps; whether every schedule prints these numbers; and the lines
-/// that are told behind the races: `{"every_schedule":true,"races":[],"text":".."}`. Which races these are, and the time that it takes,
-/// is said at `xk_races::shown_races`; the log is played once more. Err where memory was refused.
+/// The races of a run of a source text's module, whose shared numbers have these names, as one JSON value on a line: a
+/// list of races, of each its two accesses as the objects that `events` has of these steps, and whether the list is whole;
+/// whether every schedule prints these numbers; whether each print of this run comes before the next one; and the lines
+/// that are told behind the races: `{"every_schedule":true,"prints_in_order":true,"races":[],"text":"..","whole":true}`.
+/// Which races these are, and the time that it takes, is said at `xk_races::shown_races`; the log is played once more. Err
+/// where memory was refused.
 pub fn source_race_values(
     alloc: Global,
     text: &[u8],
