@@ -1,5 +1,5 @@
 -- The races that are found tell what all of the run's tell.
-use Rattle.std.proofs.Common.{◌≡◌, ◌∙◌, List, take, ap, subst}
+use Rattle.std.proofs.Common.{◌≡◌, ◌∙◌, List, length, nat_le, take, ap, subst}
 use Rattle.xk_races.specs.declared.pairs.Race.{Race}
 use Rattle.xk_races.specs.Knowledge.{Sight, sights_of}
 use Rattle.xk_races.specs.Races.{gap_in, races_in, sights_of_run}
@@ -16,7 +16,7 @@ returns-clause-races c =
     c.in_ok-sights.ensures ∙ ap sights_of (c.deref.ensures.value ∙ c.in_ok-deeds.ensures) in
     let enough : AreEnough races (races_in seen) =
     subst (λ (ss : List Sight). AreEnough races (races_in ss)) (c.deref-2.ensures.value ∙ sights) c.in_ok-races.ensures in
-    c.truncate.ensures.items ∙ ap (λ k. take k races) c.most_shown.ensures ∙ told_first races (races_in seen) enough
+    c.truncate.ensures.items ∙ ap (λ k. take k races) c.most_shown-2.ensures ∙ told_first races (races_in seen) enough
 
 pub returns-clause-closing : goal.returns-clause-closing
 returns-clause-closing c =
