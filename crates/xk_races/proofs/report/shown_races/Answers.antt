@@ -43,4 +43,6 @@ returns-clause-whole c =
     c.in_ok-sights.ensures ∙ ap sights_of (c.deref.ensures.value ∙ c.in_ok-deeds.ensures) in
     let enough : AreEnough races (races_in seen) =
     subst (λ (ss : List Sight). AreEnough races (races_in ss)) (c.deref-2.ensures.value ∙ sights) c.in_ok-races.ensures in
-    ap (nat_le (length races)) c.most_shown.ensures ∙ whole_alike races (races_in seen) enough
+    ap (λ n. nat_le n c.most_shown.result) (c.len.ensures ∙ c.in_ok-races.races.ok.0)
+    ∙ ap (nat_le (length races)) c.most_shown.ensures
+    ∙ whole_alike races (races_in seen) enough
