@@ -48,7 +48,7 @@ module _ (first : FoundValue) where
 
   by_edge : (acc : List FoundValue) (edges : List Edge) (i : ℕ) (e : Edge) → slice_get edges i ≡ Some e → e.from < length acc + i
       → get_or (fold (with_edge first) acc edges) (length acc + i) first
-        ≡ next e.act (get_or (fold (with_edge first) acc edges) e.from first)
+      ≡ next e.act (get_or (fold (with_edge first) acc edges) e.from first)
   by_edge acc [] i e there behind = absurd (none-some e there)
   by_edge acc (z ∷ edges) zero e there behind = subst (λ (y : Edge). y.from < length acc + zero → IsEnd y) (same_Some z e there) is behind
     where
@@ -119,7 +119,7 @@ way_more start edges at e way more behind within some is longer =
 pub all_settled : (start : CoreValue) (edges : List Edge) → AreSettled start (led_by start edges)
 all_settled start edges =
     by (first_found start ∷ []) edges
-      (each_push (λ i. IsSettled start) [] (first_found start) (λ k x h. absurd (none-some x h)) (settled_first start))
+    (each_push (λ i. IsSettled start) [] (first_found start) (λ k x h. absurd (none-some x h)) (settled_first start))
   where
     by : (acc : List FoundValue) (more : List Edge) → AreSettled start acc
         → AreSettled start (fold (with_edge (first_found start)) acc more)
