@@ -31,7 +31,7 @@ LONGEST_TEXT = 1 << 20
 # The status of an answer that isn't whole, or is a no.
 NOT_WHOLE = 6
 # So many bytes for each byte of a JSON value, whose parts are all there before the first is written.
-TIMES_VALUE = 35
+TIMES_VALUE = 38
 # How long a call may take: these are the largest.
 SECONDS = 2 * harness.SECONDS
 
