@@ -1,4 +1,4 @@
-# Completions of x10clock 1.3.0 for bash, which dist/manual.py writes. Bash finds them in
+# Completions of x10clock 1.4.0 for bash, which dist/manual.py writes. Bash finds them in
 # ~/.local/share/bash-completion/completions, as x10clock.
 _x10clock() {
     local word=${COMP_WORDS[COMP_CWORD]} before=${COMP_WORDS[COMP_CWORD - 1]} command='' words='' at
@@ -52,15 +52,15 @@ _x10clock() {
         compile) words='-h --help' ;;
         listing) words='--module -h --help' ;;
         run) words='--module --order --seed --runs --processors --workers --log --arg --json -h --help' ;;
-        outcomes) words='--module --limit --pick --log --sets --expect --arg --json -h --help' ;;
-        races) words='--module --arg -h --help' ;;
+        outcomes) words='--module --limit --pick --log --sets --count --expect --arg --json -h --help' ;;
+        races) words='--module --arg --json -h --help' ;;
         replay) words='--module --arg -h --help' ;;
         chart) words='--module --arg -h --help' ;;
         events) words='--module --arg --json -h --help' ;;
-        lanes) words='--module --arg --from --to --svg --path -h --help' ;;
-        page) words='--module --outcome --limit --arg --from --to -h --help' ;;
-        where) words='--module --arg --at -h --help' ;;
-        span) words='--module --arg -h --help' ;;
+        lanes) words='--module --arg --from --to --svg --path --rounds -h --help' ;;
+        page) words='--module --outcome --limit --arg --from --to --path -h --help' ;;
+        where) words='--module --arg --at --json -h --help' ;;
+        span) words='--module --arg --json -h --help' ;;
         why) words='--module --arg -h --help' ;;
         help) words='check explain compile listing run outcomes races replay chart events lanes page where span why help' ;;
     esac

@@ -1,4 +1,4 @@
-# Completions of x10clock 1.3.0 for fish, which dist/manual.py writes. Fish finds them in
+# Completions of x10clock 1.4.0 for fish, which dist/manual.py writes. Fish finds them in
 # ~/.config/fish/completions.
 complete -c x10clock -f
 complete -c x10clock -n __fish_use_subcommand -a check -d 'Says whether a program is accepted.'
@@ -49,6 +49,7 @@ complete -c x10clock -n '__fish_seen_subcommand_from outcomes' -l limit -x -d 'T
 complete -c x10clock -n '__fish_seen_subcommand_from outcomes' -l pick -x -d 'The outcome whose log is written, counted from 1: the first where nothing is said'
 complete -c x10clock -n '__fish_seen_subcommand_from outcomes' -l log -r -F -d 'The file that the log of the run goes to'
 complete -c x10clock -n '__fish_seen_subcommand_from outcomes' -l sets -d 'Tells outcomes with the same numbers, in whatever order, as one'
+complete -c x10clock -n '__fish_seen_subcommand_from outcomes' -l count -d 'Tells how many outcomes there are, and none of them'
 complete -c x10clock -n '__fish_seen_subcommand_from outcomes' -l expect -r -F -d 'A list of outcomes as this command prints them: tells the first outcome that isn\'t in it'
 complete -c x10clock -n '__fish_seen_subcommand_from outcomes' -l arg -x -d 'A number that main is given: once for each that it takes, in their order'
 complete -c x10clock -n '__fish_seen_subcommand_from outcomes' -l json -d 'Says it as a JSON value on one line'
@@ -56,6 +57,7 @@ complete -c x10clock -n '__fish_seen_subcommand_from outcomes' -s h -l help -d '
 complete -c x10clock -n '__fish_seen_subcommand_from races' -F
 complete -c x10clock -n '__fish_seen_subcommand_from races' -l module -d 'FILE is a module text'
 complete -c x10clock -n '__fish_seen_subcommand_from races' -l arg -x -d 'A number that main is given: once for each that it takes, in their order'
+complete -c x10clock -n '__fish_seen_subcommand_from races' -l json -d 'Says it as a JSON value on one line'
 complete -c x10clock -n '__fish_seen_subcommand_from races' -s h -l help -d 'Print help'
 complete -c x10clock -n '__fish_seen_subcommand_from replay' -F
 complete -c x10clock -n '__fish_seen_subcommand_from replay' -l module -d 'FILE is a module text'
@@ -77,6 +79,7 @@ complete -c x10clock -n '__fish_seen_subcommand_from lanes' -l from -x -d 'The f
 complete -c x10clock -n '__fish_seen_subcommand_from lanes' -l to -x -d 'The last step that is drawn'
 complete -c x10clock -n '__fish_seen_subcommand_from lanes' -l svg -d 'Draws it as an SVG picture'
 complete -c x10clock -n '__fish_seen_subcommand_from lanes' -l path -d 'Draws the round of each step, and a critical path'
+complete -c x10clock -n '__fish_seen_subcommand_from lanes' -l rounds -d 'Draws a row for each round, in place of each step'
 complete -c x10clock -n '__fish_seen_subcommand_from lanes' -s h -l help -d 'Print help'
 complete -c x10clock -n '__fish_seen_subcommand_from page' -F
 complete -c x10clock -n '__fish_seen_subcommand_from page' -l module -d 'FILE is a module text'
@@ -85,15 +88,18 @@ complete -c x10clock -n '__fish_seen_subcommand_from page' -l limit -x -d 'The s
 complete -c x10clock -n '__fish_seen_subcommand_from page' -l arg -x -d 'A number that main is given: once for each that it takes, in their order'
 complete -c x10clock -n '__fish_seen_subcommand_from page' -l from -x -d 'The first step that is drawn, counted from 1'
 complete -c x10clock -n '__fish_seen_subcommand_from page' -l to -x -d 'The last step that is drawn'
+complete -c x10clock -n '__fish_seen_subcommand_from page' -l path -d 'Shows the round of each step, and a critical path'
 complete -c x10clock -n '__fish_seen_subcommand_from page' -s h -l help -d 'Print help'
 complete -c x10clock -n '__fish_seen_subcommand_from where' -F
 complete -c x10clock -n '__fish_seen_subcommand_from where' -l module -d 'FILE is a module text'
 complete -c x10clock -n '__fish_seen_subcommand_from where' -l arg -x -d 'A number that main is given: once for each that it takes, in their order'
 complete -c x10clock -n '__fish_seen_subcommand_from where' -l at -x -d 'The step after which things are told, counted from 1: 0 is before the first, the last of the log where nothing is said'
+complete -c x10clock -n '__fish_seen_subcommand_from where' -l json -d 'Says it as a JSON value on one line'
 complete -c x10clock -n '__fish_seen_subcommand_from where' -s h -l help -d 'Print help'
 complete -c x10clock -n '__fish_seen_subcommand_from span' -F
 complete -c x10clock -n '__fish_seen_subcommand_from span' -l module -d 'FILE is a module text'
 complete -c x10clock -n '__fish_seen_subcommand_from span' -l arg -x -d 'A number that main is given: once for each that it takes, in their order'
+complete -c x10clock -n '__fish_seen_subcommand_from span' -l json -d 'Says it as a JSON value on one line'
 complete -c x10clock -n '__fish_seen_subcommand_from span' -s h -l help -d 'Print help'
 complete -c x10clock -n '__fish_seen_subcommand_from why' -F
 complete -c x10clock -n '__fish_seen_subcommand_from why' -l module -d 'FILE is a module text'

@@ -47,6 +47,23 @@ struct x10clock_checked {
 /* Whether a source text is accepted: 0 where it is, 1 where it isn't, 4 where memory ran out. */
 uint8_t x10clock_check(const uint8_t *program, size_t program_length, struct x10clock_checked *told);
 
+/* The same, with the line and the column of what breaks the rule, as `explain` shows it: both are counted from 1, and 0
+   where there is no such place (F4, F9, V14 to V17). */
+struct x10clock_diagnosis {
+    uint64_t steps;
+    size_t at;
+    size_t line;
+    size_t column;
+    uint32_t activities;
+    uint32_t clocks;
+    uint32_t family;
+    uint32_t number;
+    uint32_t unit;
+};
+
+/* As x10clock_check, in somewhat more time. */
+uint8_t x10clock_diagnose(const uint8_t *program, size_t program_length, struct x10clock_diagnosis *told);
+
 #ifdef __cplusplus
 }
 #endif
