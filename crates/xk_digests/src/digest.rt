@@ -32,7 +32,7 @@ fn with_number(digest: u64, number: i64) -> u64
 }
 
 /// The digest with these numbers more.
-fn with_numbers(digest: u64, numbers: &[i64]) -> u64
+pub fn with_numbers(digest: u64, numbers: &[i64]) -> u64
     ensures { result ≡ with_numbers digest numbers.now }
 {
     let mut digest = digest;
@@ -94,7 +94,7 @@ fn with_frame(live: &LiveSlots<'_>, place: usize, frames: &Frames<'_>, digest: u
 
 /// The digest with what of an activity may still count more.
 #[tactic(auto, using(crate::proofs::FrameLemmas::all_few))]
-fn with_activity(live: &LiveSlots<'_>, core: &Core<'_>, act: Act, digest: u64) -> u64
+pub fn with_activity(live: &LiveSlots<'_>, core: &Core<'_>, act: Act, digest: u64) -> u64
     requires { act < length core.now.world.activities }
     ensures { result ≡ with_activity digest
         (live_activity (live_of live.now) (act_at core.now.world.activities act)) }

@@ -133,26 +133,27 @@ fn have_same_waiting(
     Ok(are_same_waiting(live, &mut outer, &mut others_outer))
 }
 
-/// Whether what may still count of the activity's frames is the same in both cores, by the status that it has in the
-/// first. Err where memory was refused.
+/// Whether what may still count of the frames of two activities, one of each core, is the same, by the status of the first. Err where
+/// memory was refused.
 #[tactic(auto, using(crate::proofs::FrameLemmas::all_few))]
-pub(crate) fn has_same_left(
+pub fn has_same_left(
     live: &LiveSlots<'_>,
     core: &Core<'_>,
-    other: &Core<'_>,
     act: Act,
+    other: &Core<'_>,
+    there: Act,
     status: Status,
 ) -> Result<bool, AllocError>
     requires here { act < length core.now.world.activities }
-    requires there { act < length other.now.world.activities }
+    requires there { there < length other.now.world.activities }
     requires status { status ≡ (act_at core.now.world.activities act).status }
     ensures { IfOk result (λ same. Decides same (HasSameLeft (live_of live.now)
-        (act_at core.now.world.activities act) (act_at other.now.world.activities act))) }
+        (act_at core.now.world.activities act) (act_at other.now.world.activities there))) }
 {
     // For `core`: its frames have few slots.
     let _activities = core.activities();
     let frames = core.frames(act);
-    let others = other.frames(act);
+    let others = other.frames(there);
     let same = match status {
         Status::Running => is_same_present(live, frames, others),
         Status::Arrived => is_same_behind(live, frames, others),

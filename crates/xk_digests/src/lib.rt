@@ -8,6 +8,8 @@ mod frames;
 mod likeness;
 mod status;
 
-pub use digest::digest_of;
+pub use digest::{digest_of, with_activity, with_numbers};
 pub use digests::Digests;
-pub use likeness::are_alike;
+pub use frames::has_same_left;
+pub use likeness::{are_alike, are_same_numbers};
+pub use status::{is_same_standing, is_same_status};

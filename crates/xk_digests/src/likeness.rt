@@ -17,7 +17,7 @@ use xk_live_slots::LiveSlots;
 use xk_types::{Act, ClockId};
 
 /// Whether they are the same numbers.
-fn are_same_numbers(numbers: &[i64], others: &[i64]) -> bool
+pub fn are_same_numbers(numbers: &[i64], others: &[i64]) -> bool
     ensures { Decides result (numbers.now ≡ others.now) }
 {
     numbers == others
@@ -43,7 +43,7 @@ fn is_same_activity(
     if !core.has_same_finishes(other, act) {
         return Ok(false);
     }
-    has_same_left(live, core, other, act, status)
+    has_same_left(live, core, act, other, act, status)
 }
 
 /// The same of each activity; both have as many.

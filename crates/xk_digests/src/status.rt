@@ -6,7 +6,7 @@ ghost use Rattle.std.specs.Bool.{Decides};
 use xk_types::{Standing, Status};
 
 /// Whether it is the same status.
-pub(crate) fn is_same_status(status: Status, other: Status) -> bool
+pub fn is_same_status(status: Status, other: Status) -> bool
     ensures { Decides result (status ≡ other) }
 {
     match status {
@@ -17,7 +17,7 @@ pub(crate) fn is_same_status(status: Status, other: Status) -> bool
 }
 
 /// Whether it is the same standing.
-pub(crate) fn is_same_standing(standing: Standing, other: Standing) -> bool
+pub fn is_same_standing(standing: Standing, other: Standing) -> bool
     ensures { Decides result (standing ≡ other) }
 {
     match standing {

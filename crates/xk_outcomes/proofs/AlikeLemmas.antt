@@ -1,173 +1,183 @@
--- Worlds that are alike where slots are live: the same activities have private steps in them, and those that were found there go on alike.
-use Rattle.std.proofs.Common.{false, ◌≡◌, ◌∙◌, ℕ, ℤ, zero, suc, Bool, true, true≢false, ◌&&◌, List}
-use Rattle.std.proofs.Common.{[], ◌∷◌, ◌++◌, length, Option, Some, None, refl, sym, ap, subst, append_assoc, slice_get}
-use Rattle.std.specs.Prelude.{option_and_then, option_map}
+-- Worlds that are alike by rank: activities of one rank have private steps in both or in neither, and those that were found there go on alike.
+use Rattle.std.proofs.Common.{◌≡◌, ◌∙◌, ℕ, ℤ, zero, suc, ◌<◌, ◌≤◌, ◌⊎◌, inl, inr, Bool, true, false, true≢false, ◌&&◌, List}
+use Rattle.std.proofs.Common.{[], ◌∷◌, ◌++◌, length, Option, Some, None, refl, sym, ap, subst, append_assoc, arith, slice_get}
 use Rattle.std.specs.Option.{option_map_or, option_to_list}
-use Rattle.std.proofs.lemmas.List.{append-nil, length-map}
-use Rattle.std.proofs.lemmas.Option.{same_Some, slice_get-map}
-use Rattle.xk_types.specs.declared.instr.Instr.{Instr}
+use Rattle.std.proofs.lemmas.List.{append-nil}
+use Rattle.std.proofs.lemmas.Option.{none-some, same_Some, slice_get_within}
 use Rattle.xk_types.specs.declared.world.Event.{Event}
-use Rattle.xk_types.specs.declared.world.Status.{Status}
-use Rattle.xk_types.specs.declared.world.Status.TheVariants as status
+use Rattle.xk_types.specs.Acceptance.{IsAccepted}
 use Rattle.xk_types.specs.Bound.{steps_bound}
-use Rattle.xk_types.specs.Code.{ModuleValue}
-use Rattle.xk_types.specs.World.{Activity, World, instruction_at, is_ended}
-use Rattle.xk_types.specs.Step.{Outcome, Blocked, Wrong, Stepped, step, step_by, step_of}
-use Rattle.xk_types.specs.Schedule.{Through, all_ended, is_enabled, is_step, number_printed, run, run_on}
-use Rattle.xk_law_schedules.proofs.ReachabilityLemmas.{first_step, same_through}
-use Rattle.xk_law_commute.specs.Conflicts.{AreConflictFree, next_instruction, puts, reads, stores}
+use Rattle.xk_types.specs.Code.{ModuleValue, IsWithinLimits}
+use Rattle.xk_types.specs.World.{World}
+use Rattle.xk_types.specs.Step.{Outcome, Blocked, Wrong, Stepped, step}
+use Rattle.xk_types.specs.Schedule.{all_ended, is_enabled, is_step, number_printed}
+use Rattle.xk_law_schedules.proofs.ReachabilityLemmas.{reached_step}
+use Rattle.xk_law_commute.specs.Conflicts.{next_instruction}
 use Rattle.xk_law_commute.proofs.ChangeSquareLemmas.{found_of, same_step}
 use Rattle.xk_law_commute.proofs.QuietStepLaw.{enabled_step}
-use Rattle.xk_liveness.specs.Liveness.{AreAlikeWhereLive, IsLiveness, SlotTable, frame_left, live_activity, live_part}
-use Rattle.xk_liveness.proofs.LivenessLaw.{dead_slots}
-use Rattle.xk_closed.specs.Closed.{IsClosed}
+use Rattle.xk_law_commute.proofs.StartSquareLemmas.{alive_of}
+use Rattle.xk_liveness.specs.Liveness.{IsLiveness, SlotTable}
 use Rattle.xk_closed.specs.Futures.{is_private}
 use Rattle.xk_core.specs.Core.{CoreValue}
+use Rattle.xk_ranks.specs.Ranks.{AreReachedAlike, HaveOneRank, StandAlike, going, rank}
+use Rattle.xk_ranks.proofs.RankLaw.{go_by_rank, one_number, stand_alike as stand_by_rank}
+use Rattle.xk_ranks.proofs.RankListLemmas.{IsMarked, rank_less}
+use Rattle.xk_ranks.proofs.RankStepLaw.{marked_alive}
+use Rattle.xk_rank_digests.specs.Numbers.{number_of}
+use Rattle.xk_rank_digests.proofs.NumberLemmas.{going_length, number_here, number_rank}
 use Rattle.xk_outcomes.specs.PrivateSteps.{has_private_step}
-use Rattle.xk_outcomes.specs.Found.{FoundValue, at_rest, least, least_private, next, one_more, or_this, settled, with_outcome, with_step}
-use Rattle.xk_outcomes.specs.Search.{LeadsPrivately}
+use Rattle.xk_outcomes.specs.Found.{FoundValue, act_of, at_rest, least, least_private, next, next_by_rank, one_more, or_this, settled, with_outcome, with_step}
+use Rattle.xk_outcomes.proofs.FoundLemmas.{least_passes}
+use Rattle.xk_outcomes.proofs.PrivateStepLemmas.{private_enabled}
+use Rattle.xk_outcomes.proofs.RestLemmas.{none_passes}
+
+-- ---- ranks
+
+-- who can take a step is there, and hasn't ended
+pub enabled_there : (m : ModuleValue) (w : World) (a : ℕ) → is_enabled m w a ≡ true → (a < length w.activities) × IsMarked (going w.activities) a
+enabled_there m w a enabled =
+    let u = enabled_step (step m w a) enabled in
+    let x = found_of m w a u.0 u.1 u.2 in
+    (slice_get_within w.activities a x.0 x.1, marked_alive w.activities a x.0 x.1 (alive_of m w a x.0 u.0 u.1 x.1 u.2))
+
+-- so it is the one of its rank
+pub act_again : (m : ModuleValue) (w : World) (a : ℕ) → is_enabled m w a ≡ true → act_of w (rank (going w.activities) a) ≡ a
+act_again m w a enabled =
+    number_here (going w.activities) a (rank (going w.activities) a) (record { marked = (enabled_there m w a enabled).1; ranks = refl })
+
+-- and so are those who have it in two worlds
+abbrev AreOne : World → Option ℕ → World → Option ℕ → Type 0
+AreOne w None v None = Unit {0}
+AreOne w None v (Some b) = ⊥
+AreOne w (Some a) v None = ⊥
+AreOne w (Some a) v (Some b) = HaveOneRank w a v b
+
+-- what stands before the least that passes doesn't
+least_first : (passes : ℕ → Bool) (n a : ℕ) → least passes n ≡ Some a → least passes a ≡ None
+least_first passes zero a h = absurd (none-some a h)
+least_first passes (suc n) a h = by (least_first passes n a) (least passes n) (passes n) refl h
+  where
+    by : (least passes n ≡ Some a → least passes a ≡ None) → (o : Option ℕ) (b : Bool) → least passes n ≡ o → or_this o b n ≡ Some a
+        → least passes a ≡ None
+    by before (Some c) b e g = before (e ∙ g)
+    by before None true e g = subst (λ k. least passes k ≡ None) (same_Some n a g) e
+    by before None false e g = absurd (none-some a g)
 
 -- what is alike goes on alike, with all that is said here of it
-module _ (m : ModuleValue) (live : SlotTable) (liveness : IsLiveness m live) where
+module _ (m : ModuleValue) (limits : IsWithinLimits m) (ok : IsAccepted m) (live : SlotTable) (liveness : IsLiveness m live) where
   -- ---- steps
 
   abbrev Alike : World → World → Type 0
-  Alike w v = AreAlikeWhereLive live w v
+  Alike w v = AreReachedAlike m live w v
 
-  pub go_alike : (w v u : World) (a : ℕ) (e : Event) → Alike w v → step m w a ≡ Stepped u e
-      → (z : World) × (step m v a ≡ Stepped z e) × Alike u z
-  go_alike w v u a e same h = (dead_slots m live liveness w v same).steps u a e h
+  pub turned : (w v : World) → Alike w v → Alike v w
+  turned w v same = record { first = same.second; second = same.first; alike = sym same.alike }
+
+  go_alike : (w v u : World) (a : ℕ) (e : Event) → Alike w v → step m w a ≡ Stepped u e
+      → (b : ℕ) × (z : World) × HaveOneRank w a v b × (step m v b ≡ Stepped z e) × Alike u z
+  go_alike w v u a e same h =
+      let t = (go_by_rank m limits ok live liveness w v same.first same.second same.alike).steps u a e h in (
+        t.0,
+        t.1,
+        t.2,
+        t.3,
+        record { first = reached_step m w u a e same.first h; second = reached_step m v t.1 t.0 e same.second t.3; alike = t.4 },
+      )
 
   pub ends_alike : (w v : World) → Alike w v → all_ended w ≡ all_ended v
-  ends_alike w v same = (dead_slots m live liveness w v same).ends
+  ends_alike w v same = (go_by_rank m limits ok live liveness w v same.first same.second same.alike).ends
 
-  one_way : (w v : World) (a : ℕ) → Alike w v → is_enabled m w a ≡ true → is_enabled m v a ≡ true
-  one_way w v a same enabled =
+  stand_alike : (w v : World) (a b : ℕ) → Alike w v → HaveOneRank w a v b → StandAlike m w a v b
+  stand_alike w v a b same one = stand_by_rank m limits ok live liveness w v same.first same.second same.alike a b one
+
+  -- who has a rank at which a step can be taken there has it here
+  pub one_of_rank : (w v : World) (r : ℕ) → Alike w v → is_enabled m w (act_of w r) ≡ true → HaveOneRank w (act_of w r) v (act_of v r)
+  one_of_rank w v r same enabled =
+      let a : ℕ = act_of w r in
       let u = enabled_step (step m w a) enabled in
-      let z = go_alike w v u.0 a u.1 same u.2 in
-      ap is_step z.1
+      let t = go_alike w v u.0 a u.1 same u.2 in
+      let has : rank (going v.activities) t.0 ≡ r = sym t.2.same ∙ number_rank (going w.activities) r t.2.first in
+      let is : act_of v r ≡ t.0 = number_here (going v.activities) t.0 r (record { marked = t.2.second; ranks = has }) in
+      subst (HaveOneRank w a v) (sym is) t.2
 
-  pub enabled_alike : (w v : World) (a : ℕ) → Alike w v → is_enabled m w a ≡ is_enabled m v a
-  enabled_alike w v a same = by (is_enabled m w a) (is_enabled m v a) (one_way w v a same) (one_way v w a (sym same))
-    where
-      by : (b c : Bool) → (b ≡ true → c ≡ true) → (c ≡ true → b ≡ true) → b ≡ c
-      by true c there back = sym (there refl)
-      by false true there back = back refl
-      by false false there back = refl
+  pub enabled_alike : (w v : World) (a b : ℕ) → Alike w v → HaveOneRank w a v b → is_enabled m w a ≡ is_enabled m v b
+  enabled_alike w v a b same one = (stand_alike w v a b same one).enabled
 
   -- ---- who has a private step
 
-  -- the instruction that an activity stands at which hasn't ended
-  stands_alike : (x y : Activity) (st : Status) → x.status ≡ st → is_ended st ≡ false → live_activity live x ≡ live_activity live y
-      → instruction_at m x.frame ≡ instruction_at m y.frame
-  stands_alike x y st is alive same = by st alive
-      (sym (ap (λ s. frame_left live s x.frame) is) ∙ ap (λ (z : Activity). z.frame) same
-      ∙ ap (λ s. frame_left live s y.frame) (sym (ap (λ (z : Activity). z.status) same) ∙ is))
+  private_alike : (w v : World) (a b : ℕ) → Alike w v → HaveOneRank w a v b → has_private_step m w a ≡ has_private_step m v b
+  private_alike w v a b same one =
+      let s = stand_alike w v a b same one in
+      ap (λ q. q && option_map_or is_private (next_instruction m w a) true) s.enabled
+      ∙ ap (λ o. is_enabled m v b && option_map_or is_private o true) s.instruction
+
+  private_there : (w v : World) (a : ℕ) → Alike w v → has_private_step m w a ≡ true
+      → (b : ℕ) × HaveOneRank w a v b × (has_private_step m v b ≡ true)
+  private_there w v a same private =
+      let u = enabled_step (step m w a) (private_enabled m w a private) in
+      let t = go_alike w v u.0 a u.1 same u.2 in
+      (t.0, t.2, sym (private_alike w v a t.0 same t.2) ∙ private)
+
+  -- the least that has one has no greater rank than any that has one in a world that is alike
+  least_rank : (w v : World) (a c : ℕ) → Alike w v → least (has_private_step m w) a ≡ None → has_private_step m w a ≡ true
+      → has_private_step m v c ≡ true
+      → rank (going w.activities) a ≤ rank (going v.activities) c
+  least_rank w v a c same first mine theirs =
+      let b = private_there v w c (turned w v same) theirs in
+      let inside = (enabled_there m w b.0 (private_enabled m w b.0 b.2)).0 in
+      let long = going_length w.activities in
+      let is : rank (going v.activities) c ≡ rank (going w.activities) b.0 = b.1.same in
+      by b.0 b.2 is (omega (arith, inside, long)) (split a b.0)
     where
-      by : (s : Status) → is_ended s ≡ false → frame_left live s x.frame ≡ frame_left live s y.frame
-          → instruction_at m x.frame ≡ instruction_at m y.frame
-      by status.Running h f = ap (instruction_at m) f
-      by status.Arrived h f = ap (instruction_at m) f
-      by status.Ended h f = absurd (true≢false h)
+      split : (i j : ℕ) → (j < i) ⊎ ((i ≡ j) ⊎ (i < j))
+      split i j = grind arith
 
-  -- who can take a step hasn't ended
-  alive : (w : World) (a : ℕ) (x : Activity) → slice_get w.activities a ≡ Some x → is_enabled m w a ≡ true → is_ended x.status ≡ false
-  alive w a x found enabled = by x.status (sym (ap is_step (ap (step_of m w a) found)) ∙ enabled)
+      at : IsMarked (going w.activities) a
+      at = (enabled_there m w a (private_enabled m w a mine)).1
+
+      by : (b : ℕ) → has_private_step m w b ≡ true → rank (going v.activities) c ≡ rank (going w.activities) b → b ≤ length (going w.activities)
+          → (b < a) ⊎ ((a ≡ b) ⊎ (a < b)) → rank (going w.activities) a ≤ rank (going v.activities) c
+      by b has is within (inl before) = absurd (true≢false (sym has ∙ none_passes (has_private_step m w) a first b before))
+      by b has is within (inr (inl here)) =
+          let ranks : rank (going w.activities) a ≡ rank (going w.activities) b = ap (rank (going w.activities)) here in omega (arith, is, ranks)
+      by b has is within (inr (inr behind)) = let less = rank_less (going w.activities) a b at behind within in omega (arith, is, less)
+
+  -- the least has one rank in both, if there is one
+  least_one : (w v : World) → Alike w v
+      → AreOne w (least (has_private_step m w) (length w.activities)) v (least (has_private_step m v) (length v.activities))
+  least_one w v same = by (least (has_private_step m w) (length w.activities)) (least (has_private_step m v) (length v.activities)) refl refl
     where
-      by : (st : Status) → is_step (step_by m w a x st) ≡ true → is_ended st ≡ false
-      by status.Running h = refl
-      by status.Arrived h = refl
-      by status.Ended h = absurd (true≢false (sym h))
+      -- where somebody has one there, somebody has one here
+      someone : (x y : World) (a : ℕ) → Alike x y → has_private_step m x a ≡ true → least (has_private_step m y) (length y.activities) ≡ None → ⊥
+      someone x y a alike has none =
+          let b = private_there x y a alike has in
+          let inside = (enabled_there m y b.0 (private_enabled m y b.0 b.2)).0 in
+          true≢false (sym b.2 ∙ none_passes (has_private_step m y) (length y.activities) none b.0 inside)
 
-  next_alike : (w v : World) (a : ℕ) → Alike w v → is_enabled m w a ≡ true → next_instruction m w a ≡ next_instruction m v a
-  next_alike w v a same enabled =
-      let u = enabled_step (step m w a) enabled in
-      let z = go_alike w v u.0 a u.1 same u.2 in
-      let x = found_of m w a u.0 u.1 u.2 in
-      let y = found_of m v a z.0 u.1 z.1 in
-      let both : live_activity live x.0 ≡ live_activity live y.0 =
-      same_Some (live_activity live x.0) (live_activity live y.0)
-      (sym (slice_get-map (live_activity live) w.activities a ∙ ap (option_map (live_activity live)) x.1)
-      ∙ ap (λ (z : World). slice_get z.activities a) same
-      ∙ (slice_get-map (live_activity live) v.activities a ∙ ap (option_map (live_activity live)) y.1)) in
-      ap (option_and_then (λ (k : Activity). instruction_at m k.frame)) x.1
-      ∙ stands_alike x.0 y.0 x.0.status refl (alive w a x.0 x.1 enabled) both
-      ∙ sym (ap (option_and_then (λ (k : Activity). instruction_at m k.frame)) y.1)
-
-  private_alike : (w v : World) (a : ℕ) → Alike w v → has_private_step m w a ≡ has_private_step m v a
-  private_alike w v a same = by (is_enabled m w a) refl
-    where
-      by : (b : Bool) → is_enabled m w a ≡ b → has_private_step m w a ≡ has_private_step m v a
-      by true h = ap (λ q. q && option_map_or is_private (next_instruction m w a) true) (enabled_alike w v a same)
-          ∙ ap (λ o. is_enabled m v a && option_map_or is_private o true) (next_alike w v a same h)
-      by false h = ap (λ q. q && option_map_or is_private (next_instruction m w a) true) h
-          ∙ sym (ap (λ q. q && option_map_or is_private (next_instruction m v a) true) (sym (enabled_alike w v a same) ∙ h))
-
-  -- private steps lead on as from a world that is alike
-  pub leads_alike : (list : List ℕ) (u z v : World) → Alike u z → LeadsPrivately m list z v
-      → (x : World) × LeadsPrivately m list u x × Alike x v
-  leads_alike [] u z v same h = (u, refl, same ∙ ap (live_part live) h)
-  leads_alike (b ∷ list) u z v same h =
-      let y = go_alike z u h.1 b h.2 (sym same) h.3 in
-      let on = leads_alike list y.0 h.1 v (sym y.2) h.4 in
-      (on.0, (private_alike u z b same ∙ h.0, y.0, h.2, y.1, on.1), on.2)
-
-  -- ---- closed sets
-
-  -- a schedule leads on as from a world that is alike
-  run_alike : (list : List ℕ) (w v z : World) → Alike w v → run m list w ≡ Through z
-      → (t : World) × (run m list v ≡ Through t) × Alike z t
-  run_alike [] w v z same legal = (v, refl, sym (ap (live_part live) (same_through w z legal)) ∙ same)
-  run_alike (b ∷ list) w v z same legal =
-      let f = first_step w z (step m w b) (run m list) legal in
-      let next = go_alike w v f.0 b f.1 same f.2 in
-      let on = run_alike list f.0 next.0 z next.2 f.3 in
-      (on.0, ap (λ o. run_on v o (run m list)) next.1 ∙ on.1, on.2)
-
-  -- what conflicts goes by the instructions that activities stand at
-  free_alike : (w v : World) (a b : ℕ) → Alike w v → is_enabled m w a ≡ true → is_enabled m w b ≡ true → AreConflictFree m v a b
-      → AreConflictFree m w a b
-  free_alike w v a b same first second free = record {
-    second_reads = λ s h g. free.second_reads s (of a first stores s ∙ h) (of b second reads s ∙ g);
-    first_reads = λ s h g. free.first_reads s (of b second stores s ∙ h) (of a first reads s ∙ g);
-    first_puts = λ s h g. free.first_puts s (of a first puts s ∙ h) (of b second stores s ∙ g);
-    second_puts = λ s h g. free.second_puts s (of b second puts s ∙ h) (of a first stores s ∙ g);
-  }
-    where
-      of : (c : ℕ) → is_enabled m w c ≡ true → (test : Instr → ℕ → Bool) (s : ℕ)
-          → option_map_or (λ i. test i s) (next_instruction m v c) false ≡ option_map_or (λ i. test i s) (next_instruction m w c) false
-      of c enabled test s = sym (ap (λ o. option_map_or (λ i. test i s) o false) (next_alike w v c same enabled))
-
-  -- a set that is closed in a world is closed in one that is alike
-  pub closed_alike : (w v : World) (set : ℕ → Bool) → Alike w v → IsClosed m v set → IsClosed m w set
-  closed_alike w v set same closed = record {
-    apart = λ list z outside legal a b inside_a outside_b x y e f first second.
-        let t = run_alike list w v z same legal in
-        let one = go_alike z t.0 x a e t.2 first in
-        let two = go_alike z t.0 y b f t.2 second in
-        let h = closed.apart list t.0 outside t.1 a b inside_a outside_b one.0 two.0 e f one.1 two.1 in
-        (free_alike z t.0 b a t.2 (ap is_step second) (ap is_step first) h.0, h.1);
-    held = λ list z x e outside legal a inside_a first.
-        let t = run_alike list w v z same legal in
-        let one = go_alike z t.0 x a e t.2 first in
-        enabled_alike w v a same ∙ closed.held list t.0 one.0 e outside t.1 a inside_a one.1;
-  }
-
-  -- ---- those that were found there
-
-  least_same : (p q : ℕ → Bool) (n : ℕ) → ((a : ℕ) → p a ≡ q a) → least p n ≡ least q n
-  least_same p q zero same = refl
-  least_same p q (suc n) same = ap (λ o. or_this o (p n) n) (least_same p q n same) ∙ ap (λ b. or_this (least q n) b n) (same n)
+      by : (o p : Option ℕ) → least (has_private_step m w) (length w.activities) ≡ o → least (has_private_step m v) (length v.activities) ≡ p
+          → AreOne w o v p
+      by None None f g = tt
+      by None (Some b) f g = someone v w b (turned w v same) (least_passes (has_private_step m v) (length v.activities) b g) f
+      by (Some a) None f g = someone w v a same (least_passes (has_private_step m w) (length w.activities) a f) g
+      by (Some a) (Some b) f g =
+          let mine = least_passes (has_private_step m w) (length w.activities) a f in
+          let theirs = least_passes (has_private_step m v) (length v.activities) b g in
+          let up = least_rank w v a b same (least_first (has_private_step m w) (length w.activities) a f) mine theirs in
+          let down = least_rank v w b a (turned w v same) (least_first (has_private_step m v) (length v.activities) b g) theirs mine in
+          record {
+            first = (enabled_there m w a (private_enabled m w a mine)).1;
+            second = (enabled_there m v b (private_enabled m v b theirs)).1;
+            same = omega (arith, up, down);
+          }
 
   least_alike : (x y : CoreValue) → x.module_run ≡ m → y.module_run ≡ m → Alike x.world y.world
-      → least_private x ≡ least_private y
+      → AreOne x.world (least_private x) y.world (least_private y)
   least_alike x y mx my same =
-      ap (λ k. least (has_private_step k x.world) (length x.world.activities)) mx
-      ∙ least_same (has_private_step m x.world) (has_private_step m y.world) (length x.world.activities) (λ a. private_alike x.world y.world a same)
-      ∙ ap (least (has_private_step m y.world)) (sym (length-map x.world.activities (live_activity live))
-      ∙ ap (λ (z : World). length z.activities) same
-      ∙ length-map y.world.activities (live_activity live))
-      ∙ sym (ap (λ k. least (has_private_step k y.world) (length y.world.activities)) my)
+      subst (λ k. AreOne x.world (least (has_private_step k x.world) (length x.world.activities)) y.world (least_private y)) (sym mx)
+      (subst (λ k. AreOne x.world (least (has_private_step m x.world) (length x.world.activities)) y.world
+      (least (has_private_step k y.world) (length y.world.activities))) (sym my) (least_one x.world y.world same))
+
+  -- ---- those that were found there
 
   -- One goes on to z and the other to t: to worlds that are alike, and the same was printed on the way.
   pub record GoAlike (x y z t : FoundValue) : Type 0 where
@@ -200,27 +210,28 @@ module _ (m : ModuleValue) (live : SlotTable) (liveness : IsLiveness m live) whe
     second_prints = h.second_prints ∙ ap (λ ns. ns ++ h.more) g.second_prints ∙ append_assoc y.printed g.more h.more;
   }
 
-  one_alike : (x y : FoundValue) (a : ℕ) → x.core.module_run ≡ m → y.core.module_run ≡ m
-      → Alike x.core.world y.core.world
-      → GoAlike x y (one_more a x) (one_more a y)
-  one_alike x y a mx my same = subst (λ (z : FoundValue). GoAlike x y z (one_more a y)) (sym (of x mx))
-      (subst (λ (t : FoundValue). GoAlike x y (with_outcome x a (step m x.core.world a)) t) (sym (of y my))
-      (by (step m x.core.world a) (step m y.core.world a) refl refl))
+  one_alike : (x y : FoundValue) (a b : ℕ) → x.core.module_run ≡ m → y.core.module_run ≡ m
+      → Alike x.core.world y.core.world → HaveOneRank x.core.world a y.core.world b
+      → GoAlike x y (one_more a x) (one_more b y)
+  one_alike x y a b mx my same one = subst (λ (z : FoundValue). GoAlike x y z (one_more b y)) (sym (of x a mx))
+      (subst (λ (t : FoundValue). GoAlike x y (with_outcome x a (step m x.core.world a)) t) (sym (of y b my))
+      (by (step m x.core.world a) (step m y.core.world b) refl refl))
     where
-      of : (z : FoundValue) → z.core.module_run ≡ m → one_more a z ≡ with_outcome z a (step m z.core.world a)
-      of z is = ap (λ k. with_outcome z a (step k z.core.world a)) is
+      of : (z : FoundValue) (c : ℕ) → z.core.module_run ≡ m → one_more c z ≡ with_outcome z c (step m z.core.world c)
+      of z c is = ap (λ k. with_outcome z c (step k z.core.world c)) is
 
-      both : (o p : Outcome) → step m x.core.world a ≡ o → step m y.core.world a ≡ p → is_step o ≡ is_step p
-      both o p f g = sym (ap is_step f) ∙ enabled_alike x.core.world y.core.world a same ∙ ap is_step g
+      both : (o p : Outcome) → step m x.core.world a ≡ o → step m y.core.world b ≡ p → is_step o ≡ is_step p
+      both o p f g = sym (ap is_step f) ∙ enabled_alike x.core.world y.core.world a b same one ∙ ap is_step g
 
-      by : (o p : Outcome) → step m x.core.world a ≡ o → step m y.core.world a ≡ p → GoAlike x y (with_outcome x a o) (with_outcome y a p)
+      by : (o p : Outcome) → step m x.core.world a ≡ o → step m y.core.world b ≡ p → GoAlike x y (with_outcome x a o) (with_outcome y b p)
       by (Stepped u e) (Stepped v f) g h =
           let next = go_alike x.core.world y.core.world u a e same g in
-          let is : (next.0 ≡ v) × (e ≡ f) = same_step next.0 v e f (sym next.1 ∙ h) in
+          let number : next.0 ≡ b = one_number x.core.world y.core.world a next.0 b next.2 one in
+          let is : (next.1 ≡ v) × (e ≡ f) = same_step next.1 v e f (sym next.3 ∙ ap (step m y.core.world) number ∙ h) in
           record {
             first_module = mx;
             second_module = my;
-            alike = subst (Alike u) is.0 next.2;
+            alike = subst (Alike u) is.0 next.4;
             more = option_to_list (number_printed e);
             first_prints = refl;
             second_prints = ap (λ d. y.printed ++ option_to_list (number_printed d)) (sym is.1);
@@ -234,11 +245,13 @@ module _ (m : ModuleValue) (live : SlotTable) (liveness : IsLiveness m live) whe
       by (Wrong c) Blocked g h = stay x y mx my same
       by (Wrong c) (Wrong d) g h = stay x y mx my same
 
-  with_step_alike : (x y : FoundValue) (o : Option ℕ) → x.core.module_run ≡ m → y.core.module_run ≡ m
-      → Alike x.core.world y.core.world
-      → GoAlike x y (with_step x o) (with_step y o)
-  with_step_alike x y None mx my same = stay x y mx my same
-  with_step_alike x y (Some a) mx my same = one_alike x y a mx my same
+  with_step_alike : (x y : FoundValue) (o p : Option ℕ) → x.core.module_run ≡ m → y.core.module_run ≡ m
+      → Alike x.core.world y.core.world → AreOne x.core.world o y.core.world p
+      → GoAlike x y (with_step x o) (with_step y p)
+  with_step_alike x y None None mx my same one = stay x y mx my same
+  with_step_alike x y None (Some b) mx my same one = absurd one
+  with_step_alike x y (Some a) None mx my same one = absurd one
+  with_step_alike x y (Some a) (Some b) mx my same one = one_alike x y a b mx my same one
 
   settled_alike : (x y : FoundValue) (n : ℕ) → x.core.module_run ≡ m → y.core.module_run ≡ m
       → Alike x.core.world y.core.world
@@ -248,10 +261,9 @@ module _ (m : ModuleValue) (live : SlotTable) (liveness : IsLiveness m live) whe
       let z = settled n x in
       let t = settled n y in
       let g = settled_alike x y n mx my same in
-      let one : GoAlike z t (with_step z (least_private z.core)) (with_step t (least_private z.core)) =
-      with_step_alike z t (least_private z.core) g.first_module g.second_module g.alike in
       joined x y z t (with_step z (least_private z.core)) (with_step t (least_private t.core)) g
-      (subst (λ o. GoAlike z t (with_step z (least_private z.core)) (with_step t o)) (least_alike z.core t.core g.first_module g.second_module g.alike) one)
+      (with_step_alike z t (least_private z.core) (least_private t.core) g.first_module g.second_module g.alike
+      (least_alike z.core t.core g.first_module g.second_module g.alike))
 
   rest_alike : (x y : FoundValue) → x.core.module_run ≡ m → y.core.module_run ≡ m → Alike x.core.world y.core.world
       → GoAlike x y (at_rest x) (at_rest y)
@@ -259,10 +271,12 @@ module _ (m : ModuleValue) (live : SlotTable) (liveness : IsLiveness m live) whe
       subst (λ n. GoAlike x y (at_rest x) (settled n y)) (ap steps_bound (mx
       ∙ sym my)) (settled_alike x y (steps_bound x.core.module_run) mx my same)
 
-  -- a step of the activity more, and private steps behind it
-  pub next_goes_alike : (x y : FoundValue) (a : ℕ) → x.core.module_run ≡ m → y.core.module_run ≡ m
-      → Alike x.core.world y.core.world
-      → GoAlike x y (next a x) (next a y)
-  next_goes_alike x y a mx my same =
-      let g = one_alike x y a mx my same in
-      joined x y (one_more a x) (one_more a y) (next a x) (next a y) g (rest_alike (one_more a x) (one_more a y) g.first_module g.second_module g.alike)
+  -- a step of the activity of a rank more, if it can take one there, and private steps behind it
+  pub next_goes_alike : (x y : FoundValue) (r : ℕ) → x.core.module_run ≡ m → y.core.module_run ≡ m
+      → Alike x.core.world y.core.world → HaveOneRank x.core.world (act_of x.core.world r) y.core.world (act_of y.core.world r)
+      → GoAlike x y (next_by_rank r x) (next_by_rank r y)
+  next_goes_alike x y r mx my same one =
+      let a : ℕ = act_of x.core.world r in
+      let b : ℕ = act_of y.core.world r in
+      let g = one_alike x y a b mx my same one in
+      joined x y (one_more a x) (one_more b y) (next a x) (next b y) g (rest_alike (one_more a x) (one_more b y) g.first_module g.second_module g.alike)

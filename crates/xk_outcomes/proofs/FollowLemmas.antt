@@ -10,20 +10,22 @@ use Rattle.xk_types.specs.Bound.{steps_bound}
 use Rattle.xk_types.specs.Code.{ModuleValue, IsWithinLimits}
 use Rattle.xk_types.specs.World.{AreArguments, opening}
 use Rattle.xk_types.specs.Step.{Outcome, Blocked, Wrong, Stepped, step}
-use Rattle.xk_types.specs.Schedule.{all_ended, is_enabled}
+use Rattle.xk_types.specs.Schedule.{IsReached, all_ended, is_enabled}
 use Rattle.xk_law_schedules.proofs.StepCountLemmas.{step_counts}
 use Rattle.xk_law_commute.proofs.QuietStepLaw.{enabled_step}
-use Rattle.xk_liveness.specs.Liveness.{AreAlikeWhereLive, IsLiveness, SlotTable}
+use Rattle.xk_liveness.specs.Liveness.{IsLiveness, SlotTable}
 use Rattle.xk_core.specs.Core.{CoreValue}
+use Rattle.xk_ranks.specs.Ranks.{AreAlikeByRank, AreReachedAlike, HaveOneRank}
+use Rattle.xk_ranks.proofs.RankLaw.{one_turned}
 use Rattle.xk_readings.specs.declared.edge.Edge.{Edge}
 use Rattle.xk_readings.specs.Graphs.{IsWithin, graph}
 use Rattle.xk_readings.specs.Readings.{IsLongest, Reads}
-use Rattle.xk_outcomes.specs.Found.{FoundValue, first_found, least_private, next, one_more, settled, through, with_outcome, with_step}
+use Rattle.xk_outcomes.specs.Found.{FoundValue, act_of, first_found, least_private, next, next_by_rank, one_more, settled, through, with_outcome, with_step}
 use Rattle.xk_outcomes.specs.Links.{AreLinked, LeadTo, Leads, ends}
 use Rattle.xk_outcomes.specs.Search.{IsFound}
-use Rattle.xk_outcomes.proofs.AlikeLemmas.{enabled_alike, ends_alike, next_goes_alike}
+use Rattle.xk_outcomes.proofs.AlikeLemmas.{enabled_alike, ends_alike, next_goes_alike, one_of_rank, turned}
 use Rattle.xk_outcomes.proofs.FoundLemmas.{first_is_found, found_through}
-use Rattle.xk_outcomes.proofs.RestLemmas.{steps_within}
+use Rattle.xk_outcomes.proofs.RestLemmas.{found_reached, steps_within}
 
 -- ---- ends
 
@@ -120,34 +122,41 @@ steps_next m x a same enabled =
     let rest = steps_settled (one_more a x) (steps_bound (one_more a x).core.module_run) in
     omega (arith, one, rest)
 
-followed : (m : ModuleValue) (live : SlotTable) → IsLiveness m live → (all : List FoundValue) (links : List Edge)
-    → AreLinked live m all links → ((k : ℕ) (x : FoundValue)
-    → slice_get all k ≡ Some x → x.core.module_run ≡ m)
+followed : (m : ModuleValue) (limits : IsWithinLimits m) (ok : IsAccepted m) (live : SlotTable) → IsLiveness m live
+    → (all : List FoundValue) (links : List Edge) → AreLinked live m all links
+    → ((k : ℕ) (x : FoundValue) → slice_get all k ≡ Some x → (x.core.module_run ≡ m) × IsReached m x.core.world)
     → (n k : ℕ) (acts : List ℕ) (numbers : List ℤ) (x y : FoundValue) → Reads (graph links (ends all)) n k acts numbers
     → slice_get all k ≡ Some x
-    → y.core.module_run ≡ m → AreAlikeWhereLive live y.core.world x.core.world → Follows n y (through acts y) numbers
-followed m live liveness all links linked modules zero k acts numbers x y reads there is same =
+    → y.core.module_run ≡ m → AreReachedAlike m live y.core.world x.core.world → Follows n y (through acts y) numbers
+followed m limits ok live liveness all links linked runs zero k acts numbers x y reads there is same =
     subst (λ bs. Follows zero y (through bs y) numbers) (sym reads.1) (record {
-      ended = ends_alike m live liveness y.core.world x.core.world same ∙ ended_there all k x there reads.0;
+      ended = ends_alike m limits ok live liveness y.core.world x.core.world same ∙ ended_there all k x there reads.0;
       prints = sym (append-nil y.printed) ∙ ap (λ ns. y.printed ++ ns) (sym reads.2);
       long = omega arith;
     })
-followed m live liveness all links linked modules (suc n) k acts numbers x y reads there is same =
+followed m limits ok live liveness all links linked runs (suc n) k acts numbers x y reads there is same =
     let e = reads.0 in
     let l = linked.each reads.1.0 e reads.1.1 in
     let source : l.source ≡ x = same_Some l.source x (sym l.out ∙ (ap (slice_get all) reads.2 ∙ there)) in
-    let enabled : is_enabled m y.core.world e.act ≡ true =
-    enabled_alike m live liveness y.core.world x.core.world e.act same
-    ∙ subst (λ (z : FoundValue). is_enabled m z.core.world e.act ≡ true) source l.enabled in
-    let alike_next : AreAlikeWhereLive live (next e.act x).core.world l.target.core.world = subst (λ (z : FoundValue). AreAlikeWhereLive live (next e.act z).core.world l.target.core.world) source l.alike in
-    let prints_next : (next e.act x).printed ≡ x.printed ++ option_to_list e.printed =
-    subst (λ (z : FoundValue). (next e.act z).printed ≡ z.printed ++ option_to_list e.printed) source l.prints in
-    let g = next_goes_alike m live liveness y x e.act is (modules k x there) same in
+    let there_enabled : is_enabled m x.core.world (act_of x.core.world e.act) ≡ true =
+    subst (λ (z : FoundValue). is_enabled m z.core.world (act_of z.core.world e.act) ≡ true) source l.enabled in
+    let one : HaveOneRank y.core.world (act_of y.core.world e.act) x.core.world (act_of x.core.world e.act) =
+    one_turned x.core.world y.core.world (act_of x.core.world e.act) (act_of y.core.world e.act)
+    (one_of_rank m limits ok live liveness x.core.world y.core.world e.act (turned m limits ok live liveness y.core.world x.core.world same) there_enabled) in
+    let enabled : is_enabled m y.core.world (act_of y.core.world e.act) ≡ true =
+    enabled_alike m limits ok live liveness y.core.world x.core.world (act_of y.core.world e.act) (act_of x.core.world e.act) same one
+    ∙ there_enabled in
+    let alike_next : AreAlikeByRank live (next_by_rank e.act x).core.world l.target.core.world =
+    subst (λ (z : FoundValue). AreAlikeByRank live (next_by_rank e.act z).core.world l.target.core.world) source l.alike in
+    let prints_next : (next_by_rank e.act x).printed ≡ x.printed ++ option_to_list e.printed =
+    subst (λ (z : FoundValue). (next_by_rank e.act z).printed ≡ z.printed ++ option_to_list e.printed) source l.prints in
+    let g = next_goes_alike m limits ok live liveness y x e.act is (runs k x there).0 same one in
     let more : g.more ≡ option_to_list e.printed = append_cancel_left x.printed g.more (option_to_list e.printed) (sym g.second_prints
     ∙ prints_next) in
-    let f = followed m live liveness all links linked modules n e.to reads.3 reads.4 l.target (next e.act y) reads.5 l.into g.first_module (g.alike
-    ∙ alike_next) in
-    let counted = steps_next m y e.act is enabled in
+    let on : AreReachedAlike m live (next_by_rank e.act y).core.world l.target.core.world =
+    record { first = g.alike.first; second = (runs e.to l.target l.into).1; alike = g.alike.alike ∙ alike_next } in
+    let f = followed m limits ok live liveness all links linked runs n e.to reads.3 reads.4 l.target (next_by_rank e.act y) reads.5 l.into g.first_module on in
+    let counted = steps_next m y (act_of y.core.world e.act) is enabled in
     let long = f.long in
     subst (λ bs. Follows (suc n) y (through bs y) numbers) (sym reads.6) (record {
       ended = f.ended;
@@ -161,16 +170,21 @@ followed m live liveness all links linked modules (suc n) k acts numbers x y rea
 module _ (start : CoreValue) (live : SlotTable) (liveness : IsLiveness start.module_run live) (all : List FoundValue) (links : List Edge)
     (linked : AreLinked live start.module_run all links)
     (found : (k : ℕ) (x : FoundValue) → slice_get all k ≡ Some x
-    → IsFound start x) (first : slice_get all 0 ≡ Some (first_found start)) where
+    → IsFound start x) (first : slice_get all 0 ≡ Some (first_found start)) (limits : IsWithinLimits start.module_run) (ok : IsAccepted start.module_run)
+    (taken : AreArguments start.module_run start.world.arguments)
+    (begins : start.world ≡ opening start.module_run start.world.arguments) where
+  reached : (x : FoundValue) → IsFound start x → IsReached start.module_run x.core.world
+  reached x f = found_reached start limits ok taken begins x f
+
   pub read_follows : (n : ℕ) (acts : List ℕ) (numbers : List ℤ) → Reads (graph links (ends all)) n 0 acts numbers
       → Follows n (first_found start) (through acts (first_found start)) numbers
   read_follows n acts numbers reads =
-      followed start.module_run live liveness all links linked (λ k x there. (found k x there).1.module_is) n 0 acts numbers (first_found start) (first_found start) reads first
-      (first_is_found start).1.module_is refl
+      followed start.module_run limits ok live liveness all links linked (λ k x there. ((found k x there).1.module_is, reached x (found k x there)))
+      n 0 acts numbers (first_found start) (first_found start) reads first (first_is_found start).1.module_is
+      (let here = reached (first_found start) (first_is_found start) in record { first = here; second = here; alike = refl })
 
-  pub longest_read : IsWithinLimits start.module_run → IsAccepted start.module_run → AreArguments start.module_run start.world.arguments
-      → start.world ≡ opening start.module_run start.world.arguments → IsLongest (graph links (ends all)) (steps_bound start.module_run)
-  longest_read limits ok taken begins n acts numbers reads =
+  pub longest_read : IsLongest (graph links (ends all)) (steps_bound start.module_run)
+  longest_read n acts numbers reads =
       let f = read_follows n acts numbers reads in
       let long = f.long in
       let within = steps_within start limits ok taken begins (through acts (first_found start)) (found_through start acts (first_found start) (first_is_found start)) in

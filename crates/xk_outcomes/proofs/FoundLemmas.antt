@@ -16,7 +16,7 @@ use Rattle.xk_outcomes.specs.PrivateSteps.{has_private_step}
 use Rattle.xk_law_commute.proofs.QuietStepLaw.{enabled_step}
 use Rattle.xk_core.specs.Core.{CoreValue}
 use Rattle.xk_outcomes.specs.Found.{FoundValue, along, at_rest, first_found, least, least_private}
-use Rattle.xk_outcomes.specs.Found.{next, one_more, or_this, settled, through, with_outcome, with_step}
+use Rattle.xk_outcomes.specs.Found.{act_of, next, next_by_rank, one_more, or_this, settled, through, with_outcome, with_step}
 use Rattle.xk_readings.specs.declared.edge.Edge.{Edge}
 use Rattle.xk_outcomes.specs.Alikeness.{Alikeness}
 use Rattle.xk_outcomes.specs.Links.{HasLink}
@@ -227,6 +227,6 @@ first_is_found start = settled_found start (first_found start) (settled_first st
 found_next : (start : CoreValue) (x : FoundValue) (a : ℕ) → IsFound start x → IsFound start (next a x)
 found_next start x a f = settled_found start (next a x) (settled_next start x a f)
 
-pub found_through : (start : CoreValue) (acts : List ℕ) (x : FoundValue) → IsFound start x → IsFound start (through acts x)
+pub found_through : (start : CoreValue) (ranks : List ℕ) (x : FoundValue) → IsFound start x → IsFound start (through ranks x)
 found_through start [] x f = f
-found_through start (a ∷ acts) x f = found_through start acts (next a x) (found_next start x a f)
+found_through start (r ∷ ranks) x f = found_through start ranks (next_by_rank r x) (found_next start x (act_of x.core.world r) f)

@@ -169,7 +169,7 @@ all_apart order like told m args all found rest different = record {
       ap (live_part (live_by like)) (sym to_v) ∙ sym alike ∙ ap (live_part (live_by like)) to_w in
       let numbers : key order x.0.printed ≡ key order y.0.printed =
       ap (key order) (sym x.2.prints) ∙ same ∙ ap (key order) y.2.prints in
-      different i j x.0 y.0 x.1 y.1 (worlds, subst (λ o. key o x.0.printed ≡ key o y.0.printed) (sym told) numbers);
+      different i j x.0 y.0 x.1 y.1 (inl worlds, subst (λ o. key o x.0.printed ≡ key o y.0.printed) (sym told) numbers);
 }
 
 -- where whatever stands along links is listed, what the ones print is in which all have ended

@@ -1,6 +1,9 @@
 -- What is read along links is listed: from readings to outcomes, and as many outcomes as there are readings.
 use Rattle.std.proofs.Common.{◌≡◌, ◌∙◌, ℕ, ◌+◌, ◌<◌, ◌⊎◌, inl, inr, List, [], ◌++◌, length, Some, sym, ap, subst, arith, slice_get}
 use Rattle.std.proofs.lemmas.Option.{same_Some, slice_get_within}
+use Rattle.xk_types.specs.Acceptance.{IsAccepted}
+use Rattle.xk_types.specs.Code.{IsWithinLimits}
+use Rattle.xk_types.specs.World.{AreArguments, opening}
 use Rattle.xk_core.specs.Core.{CoreValue}
 use Rattle.xk_readings.specs.declared.edge.Edge.{Edge}
 use Rattle.xk_readings.specs.declared.listing.Reading.{Reading}
@@ -15,6 +18,7 @@ use Rattle.xk_outcomes.specs.Listing.{AreMet, AreNoted, ArePlayed, AreRead, AreR
 use Rattle.xk_outcomes.specs.Outcomes.{IsListed}
 use Rattle.xk_outcomes.specs.Search.{AreFound}
 use Rattle.xk_outcomes.proofs.FollowLemmas.{read_follows, read_to}
+use Rattle.xk_outcomes.proofs.FoundLemmas.{first_silent}
 
 -- ---- from readings to outcomes
 
@@ -53,12 +57,13 @@ all_read all links found list whole listed n acts numbers reads =
 -- whatever can be read is played by its steps
 pub played : (start : CoreValue) (live : SlotTable) → IsLiveness start.module_run live → (all : List FoundValue) (links : List Edge)
     → AreLinked live start.module_run all links → AreFound start all
-    → slice_get all 0 ≡ Some (first_found start) → (first_found start).printed ≡ [] → ArePlayed start all links
-played start live liveness all links linked found first silent n acts numbers reads =
-    let f = read_follows start live liveness all links linked found first n acts numbers reads in
+    → slice_get all 0 ≡ Some (first_found start) → IsWithinLimits start.module_run → IsAccepted start.module_run
+    → AreArguments start.module_run start.world.arguments → start.world ≡ opening start.module_run start.world.arguments → ArePlayed start all links
+played start live liveness all links linked found first limits ok taken begins n acts numbers reads =
+    let f = read_follows start live liveness all links linked found first limits ok taken begins n acts numbers reads in
     record {
       ended = f.ended;
-      prints = f.prints ∙ ap (λ ns. ns ++ numbers) silent;
+      prints = f.prints ∙ ap (λ ns. ns ++ numbers) (first_silent start limits ok);
     }
 
 -- ---- what stands along links

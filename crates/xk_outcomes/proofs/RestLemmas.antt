@@ -23,7 +23,7 @@ use Rattle.xk_outcomes.proofs.FoundLemmas.{found_settled, found_with_step, least
 -- ---- nobody has a private step
 
 -- where there is none that passes, none below does
-none_passes : (passes : ℕ → Bool) (n : ℕ) → least passes n ≡ None → (a : ℕ) → a < n → passes a ≡ false
+pub none_passes : (passes : ℕ → Bool) (n : ℕ) → least passes n ≡ None → (a : ℕ) → a < n → passes a ≡ false
 none_passes passes zero none a less = absurd (omega (arith, less))
 none_passes passes (suc n) none a less = by (least passes n) (passes n) refl refl none (none_passes passes n) (split a n less)
   where
@@ -91,7 +91,7 @@ rests_or_counts x (suc n) = by (rests_or_counts x n)
 
 module _ (start : CoreValue) (limits : IsWithinLimits start.module_run) (ok : IsAccepted start.module_run) (taken : AreArguments start.module_run start.world.arguments)
     (begins : start.world ≡ opening start.module_run start.world.arguments) where
-  found_reached : (x : FoundValue) → IsFound start x → IsReached start.module_run x.core.world
+  pub found_reached : (x : FoundValue) → IsFound start x → IsReached start.module_run x.core.world
   found_reached x f =
       let m = start.module_run in
       let same = sym (run_arguments m f.0 start.world x.core.world f.1.legal) in (

@@ -13,16 +13,18 @@ use Rattle.xk_types.specs.Schedule.{Through, run, all_ended, is_enabled, number_
 use Rattle.xk_law_schedules.proofs.ReachabilityLemmas.{same_through, first_step}
 use Rattle.xk_law_commute.proofs.ChangeSquareLemmas.{found_of}
 use Rattle.xk_liveness.specs.Liveness.{SlotTable, live_part}
+use Rattle.xk_ranks.specs.Ranks.{remains}
 use Rattle.xk_closed_sets.specs.ClosedSets.{is_in}
 use Rattle.xk_readings.specs.declared.edge.Edge.{Edge}
-use Rattle.xk_digests.specs.Digest.{world_digest}
-use Rattle.xk_digests.proofs.DigestLemmas.{alike_digests}
+use Rattle.xk_rank_digests.specs.RankDigest.{rank_digest}
+use Rattle.xk_rank_digests.proofs.RankDigestLemmas.{rank_digests}
+use Rattle.xk_rank_digests.proofs.RankLikenessLemmas.{told_by_rank, told_turned}
 use Rattle.xk_types.proofs.ListLemmas.{get-append_left as stays, get_inside as there_is, get_push as at_end}
 use Rattle.xk_readings.proofs.ListLemmas.{place}
 use Rattle.xk_closed.proofs.ClosedLaw.{printed_first}
 use Rattle.xk_outcomes.specs.Alikeness.{Alikeness, live_by}
 use Rattle.xk_core.specs.Core.{CoreValue}
-use Rattle.xk_outcomes.specs.Found.{FoundValue, first_found, next}
+use Rattle.xk_outcomes.specs.Found.{FoundValue, act_of, first_found, next_by_rank}
 use Rattle.xk_outcomes.specs.Links.{AreLinked, HasLink, IsLink, LeadTo, Leads, ends}
 use Rattle.xk_outcomes.specs.Rising.{key}
 use Rattle.xk_outcomes.specs.Search.{AreDifferent, AreDigests, AreExpanded, Has, HasAfter, IsAdded}
@@ -86,7 +88,7 @@ pub added_there : (like : Alikeness) (old new : List FoundValue) (x : FoundValue
     → IsThere like new x.core.world x.printed k
 added_there like old new x k (inl h) = subst (λ l. IsThere like l x.core.world x.printed k) (sym h.0) h.1
 added_there like old new x k (inr h) =
-    (x, subst (λ l. slice_get l k ≡ Some x) (sym h.0) (subst (λ j. slice_get (old ++ x ∷ []) j ≡ Some x) (sym h.1) (at_end old x)), (refl, refl))
+    (x, subst (λ l. slice_get l k ≡ Some x) (sym h.0) (subst (λ j. slice_get (old ++ x ∷ []) j ≡ Some x) (sym h.1) (at_end old x)), (inl refl, refl))
 
 added_grown : (like : Alikeness) (old new : List FoundValue) (x : FoundValue) (k : ℕ) → IsAdded like old new x k → IsGrown old new
 added_grown like old new x k (inl h) = grown_same old new h.0
@@ -95,7 +97,7 @@ added_grown like old new x k (inr h) = grown_push old new x h.0
 -- Where those that were found were linked, they are with one more, and the link to it.
 pub linked_push : (m : ModuleValue) (like : Alikeness) (old new : List FoundValue) (links more : List Edge) (l : Edge) (x y : FoundValue)
     → AreLinked (live_by like) m old links
-    → slice_get old l.from ≡ Some x → y ≡ next l.act x → is_enabled m x.core.world l.act ≡ true
+    → slice_get old l.from ≡ Some x → y ≡ next_by_rank l.act x → is_enabled m x.core.world (act_of x.core.world l.act) ≡ true
     → y.printed ≡ x.printed ++ option_to_list l.printed
     → IsAdded like old new y l.to → more ≡ links ++ l ∷ [] → AreLinked (live_by like) m new more
 linked_push m like old new links more l x y linked out is enabled prints added one = record {
@@ -119,7 +121,8 @@ linked_push m like old new links more l x y linked out is enabled prints added o
           out = grown l.from x out;
           into = t.1;
           enabled = enabled;
-          alike = ap (λ (z : FoundValue). live_part (live_by like) z.core.world) (sym is) ∙ t.2.0;
+          alike = ap (λ (z : FoundValue). live_part (live_by like) (remains z.core.world)) (sym is)
+              ∙ told_by_rank (live_by like) y.core.world t.0.core.world t.2.0;
           prints = ap (λ (z : FoundValue). z.printed) (sym is) ∙ prints;
         }
 
@@ -244,8 +247,9 @@ expanded_more m like old new links more n within grown longer_links before here 
 -- those that are at the same have one digest
 pub same_digests : (like : Alikeness) (x new : FoundValue) → IsAt like x new.core.world new.printed
     → found_digest like x ≡ found_digest like new
-same_digests like x new at = ap (world_digest (live_by like) x.core.world) at.1
-    ∙ sym (alike_digests (live_by like) new.core.world x.core.world (key like.order new.printed) at.0)
+same_digests like x new at = ap (rank_digest (live_by like) x.core.world) at.1
+    ∙ sym (rank_digests (live_by like) new.core.world x.core.world (key like.order new.printed)
+    (told_by_rank (live_by like) new.core.world x.core.world at.0))
 
 pub different_push : (like : Alikeness) (old new : List FoundValue) (o : FoundValue) → new ≡ old ++ o ∷ []
     → (Has like old o.core.world o.printed → ⊥)
@@ -257,7 +261,15 @@ different_push like old new o e fresh before i j x y hi hj same =
     by (inl a) (inl b) = before i j x y a b same
     by (inl a) (inr b) = absurd (fresh (i, (x, a, subst (λ (z : FoundValue). IsAt like x z.core.world z.printed) (sym b.1) same)))
     by (inr a) (inl b) =
-        absurd (fresh (j, (y, b, subst (λ (z : FoundValue). IsAt like y z.core.world z.printed) (sym a.1) (sym same.0, sym same.1))))
+        absurd (fresh (
+          j,
+          (
+            y,
+            b,
+            subst (λ (z : FoundValue). IsAt like y z.core.world z.printed) (sym a.1)
+                (told_turned (live_by like) y.core.world x.core.world same.0, sym same.1),
+          ),
+        ))
     by (inr a) (inr b) = a.0 ∙ sym b.0
 
 pub digests_push : (like : Alikeness) (old new : List FoundValue) (digests more : List ℕ) (x : FoundValue) → new ≡ old ++ x ∷ []

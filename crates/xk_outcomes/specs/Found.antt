@@ -4,6 +4,9 @@ use Rattle.std.specs.Option.{option_to_list}
 use Rattle.xk_types.specs.Step.{Outcome, Blocked, Wrong, Stepped, step}
 use Rattle.xk_types.specs.Schedule.{number_printed}
 use Rattle.xk_types.specs.Bound.{steps_bound}
+use Rattle.xk_types.specs.World.{World}
+use Rattle.xk_ranks.specs.Ranks.{going}
+use Rattle.xk_rank_digests.specs.Numbers.{number_of}
 use Rattle.xk_outcomes.specs.PrivateSteps.{has_private_step}
 use Rattle.xk_core.specs.Core.{CoreValue, with_world}
 
@@ -73,6 +76,14 @@ abbrev pub along : List ℕ → FoundValue → FoundValue
 along [] x = x
 along (a ∷ way) x = next a (along way x)
 
--- the same by a schedule of such steps, the first of which stands first
+-- the activity of a rank among those that haven't ended
+abbrev pub act_of : World → ℕ → ℕ
+act_of w r = number_of (going w.activities) r
+
+-- a step of the activity of a rank, and private steps behind it
+abbrev pub next_by_rank : ℕ → FoundValue → FoundValue
+next_by_rank r x = next (act_of x.core.world r) x
+
+-- where such steps lead, each by a rank, the first of which stands first
 abbrev pub through : List ℕ → FoundValue → FoundValue
-through acts x = fold (λ y a. next a y) x acts
+through ranks x = fold (λ y r. next_by_rank r y) x ranks

@@ -35,7 +35,7 @@ abbrev pub AreNoted : Order → List FoundValue → ℕ → List Outcome → Typ
 AreNoted order all place list = (j : ℕ) (x : FoundValue) → j < place → slice_get all j ≡ Some x → all_ended x.core.world ≡ true
     → IsListed list (ordered order x.printed)
 
--- steps of these activities lead from the first one to where all have ended, and print these numbers
+-- steps of activities of these ranks lead from the first one to where all have ended, and print these numbers
 pub record IsPlayed (start : CoreValue) (acts : List ℕ) (numbers : List ℤ) : Type 0 where
   pub ended : all_ended (through acts (first_found start)).core.world ≡ true
   pub prints : (through acts (first_found start)).printed ≡ numbers

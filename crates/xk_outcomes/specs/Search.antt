@@ -6,7 +6,6 @@ use Rattle.xk_types.specs.Code.{ModuleValue}
 use Rattle.xk_types.specs.World.{World}
 use Rattle.xk_types.specs.Step.{Stepped, step}
 use Rattle.xk_types.specs.Schedule.{Through, run, all_ended, is_enabled, number_printed, printed}
-use Rattle.xk_liveness.specs.Liveness.{AreAlikeWhereLive}
 use Rattle.xk_closed.specs.Closed.{IsClosed}
 use Rattle.xk_closed_sets.specs.ClosedSets.{is_in}
 use Rattle.xk_outcomes.specs.PrivateSteps.{has_private_step}
@@ -15,7 +14,8 @@ use Rattle.xk_outcomes.specs.Alikeness.{Alikeness, live_by}
 use Rattle.xk_outcomes.specs.Found.{FoundValue, at_rest}
 use Rattle.xk_readings.specs.declared.edge.Edge.{Edge}
 use Rattle.xk_outcomes.specs.declared.order.Order.{Order}
-use Rattle.xk_digests.specs.Digest.{world_digest}
+use Rattle.xk_rank_digests.specs.RankDigest.{rank_digest}
+use Rattle.xk_rank_digests.specs.RankLikeness.{AreToldAlike}
 use Rattle.xk_outcomes.specs.Links.{HasLink, LeadTo}
 use Rattle.xk_outcomes.specs.Outcomes.{IsAtRest}
 use Rattle.xk_outcomes.specs.Rising.{key}
@@ -61,9 +61,9 @@ AreAtRest all = (k : ℕ) (x : FoundValue) → slice_get all k ≡ Some x → Is
 abbrev pub IsGrown : {X : Type 0} → List X → List X → Type 0
 IsGrown {X} old new = (k : ℕ) (x : X) → slice_get old k ≡ Some x → slice_get new k ≡ Some x
 
--- it is in a world that is like this one where slots are live, and these numbers being printed by then doesn't tell it apart
+-- it is in a world that is told to be like this one, and these numbers being printed by then doesn't tell it apart
 abbrev pub IsAt : Alikeness → FoundValue → World → List ℤ → Type 0
-IsAt like x w numbers = AreAlikeWhereLive (live_by like) w x.core.world × (key like.order x.printed ≡ key like.order numbers)
+IsAt like x w numbers = AreToldAlike (live_by like) w x.core.world × (key like.order x.printed ≡ key like.order numbers)
 
 -- the one of a number is
 abbrev pub IsThere : Alikeness → List FoundValue → World → List ℤ → ℕ → Type 0
@@ -84,7 +84,7 @@ AreDifferent like all = (i j : ℕ) (x y : FoundValue) → slice_get all i ≡ S
 
 -- the digest of one that was found
 abbrev pub found_digest : Alikeness → FoundValue → ℕ
-found_digest like x = world_digest (live_by like) x.core.world (key like.order x.printed)
+found_digest like x = rank_digest (live_by like) x.core.world (key like.order x.printed)
 
 -- their digests
 abbrev pub AreDigests : Alikeness → List FoundValue → List ℕ → Type 0

@@ -24,8 +24,9 @@ use crate::run::Run;
 use std::alloc::{AllocError, Global};
 use std::marker::Model;
 use xk_core::Core;
-use xk_digests::{Digests, are_alike, digest_of};
+use xk_digests::Digests;
 use xk_live_slots::LiveSlots;
+use xk_rank_digests::{are_alike_by_rank, rank_digest_of};
 use xk_types::Act;
 
 /// How one was found: by a step from one before it, and by private steps.
@@ -48,7 +49,7 @@ struct Way {
 
 /// Those that were found, numbered from 0. The first is found by private steps alone. A core is kept with the first, and with one to
 /// which many steps lead from where one is kept: whoever wants to look at another is led there again from such a checkpoint. No two are in
-/// worlds that are alike where slots are live, unless the order tells them apart by what was printed by then.
+/// worlds that are told to be alike, where slots are live or by rank, unless the order tells them apart by what was printed by then.
 #[derive(Drop)]
 pub struct Entries<'m> {
     start: Core<'m>,
@@ -93,7 +94,7 @@ fn found_digest(
         ≡ found_digest (record { order = order; slots = live.now }) x.now) }
 {
     let key = key_of(alloc, order, &x.printed)?;
-    Ok(digest_of(live, &x.core, &key))
+    Ok(rank_digest_of(live, &x.core, &key))
 }
 
 /// Whether two lists of numbers are the same.
@@ -103,7 +104,7 @@ pub fn are_same(a: &[i64], b: &[i64]) -> bool
     a == b
 }
 
-/// Whether the two are in worlds that are alike where slots are live, and nothing that was printed by then tells them apart.
+/// Whether the two are in worlds that are told to be alike, and nothing that was printed by then tells them apart.
 fn is_same(
     alloc: Global,
     order: Order,
@@ -111,6 +112,7 @@ fn is_same(
     x: &Found<'_>,
     new: &Found<'_>,
 ) -> Result<bool, AllocError>
+    requires { x.now.core.module_run ≡ new.now.core.module_run }
     ensures yes { IfOk result (λ same. same ≡ true
         → IsAt (record { order = order; slots = live.now }) x.now
         new.now.core.world new.now.printed) }
@@ -123,7 +125,7 @@ fn is_same(
     if !are_same(&key, &new_key) {
         return Ok(false);
     }
-    are_alike(live, &new.core, &x.core)
+    are_alike_by_rank(alloc, live, &new.core, &x.core)
 }
 
 /// Another place stands at a number, if one does.
@@ -319,15 +321,15 @@ impl<'m> Entries<'m> {
         }
     }
 
-    /// The run by steps of these activities from the first one, and private steps behind each.
-    pub fn led(&self, alloc: Global, acts: &[u32]) -> Result<Run<'m>, AllocError>
+    /// The run by steps of activities of these ranks from the first one, and private steps behind each.
+    pub fn led(&self, alloc: Global, ranks: &[u32]) -> Result<Run<'m>, AllocError>
         ensures to { IfOk result
-            (λ run. run.to ≡ through acts.now (first_found self.now.start)) }
+            (λ run. run.to ≡ through ranks.now (first_found self.now.start)) }
         ensures found { IfOk result
             (λ run. IsFoundBy self.now.start run.schedule.items run.to) }
     {
         let mut run = Run::begin(alloc, &self.start)?;
-        match run.go_through(acts) {
+        match run.go_through(ranks) {
             Ok(()) => Ok(run),
             Err(_) => Err(AllocError),
         }
@@ -335,14 +337,15 @@ impl<'m> Entries<'m> {
 
     /// Whether the new one is the same as the one of a number, to which another core is led.
     fn is_same_at(&self, alloc: Global, number: usize, new: &Found<'_>) -> Result<bool, AllocError>
-        requires { number < length self.now.all }
+        requires number { number < length self.now.all }
+        requires found { IsFound self.now.start new.now }
         ensures yes { IfOk result (λ same. same ≡ true
             → IsThere self.now.like self.now.all new.now.core.world new.now.printed number) }
-        ensures no { IsFound self.now.start new.now → IfOk result (λ same. same ≡ false
+        ensures no { IfOk result (λ same. same ≡ false
             → (x : FoundValue) → slice_get self.now.all number ≡ Some x
             → IsAt self.now.like x new.now.core.world new.now.printed → ⊥) }
     {
-        // For `no`: they are found.
+        // For its module: they are found.
         let _count = self.len();
         let x = self.get(alloc, number)?;
         let same = is_same(alloc, self.order, &self.live, &x, new)?;
@@ -357,9 +360,10 @@ impl<'m> Entries<'m> {
         digest: u64,
     ) -> Result<Option<usize>, AllocError>
         requires digest { digest ≡ found_digest self.now.like new.now }
+        requires found { IsFound self.now.start new.now }
         ensures yes { IfOk result (λ known. IfSome known
             (IsThere self.now.like self.now.all new.now.core.world new.now.printed)) }
-        ensures no { IsFound self.now.start new.now → IfOk result (λ known. IfNone known
+        ensures no { IfOk result (λ known. IfNone known
             (Has self.now.like self.now.all new.now.core.world new.now.printed → ⊥)) }
     {
         let mut at = self.digests.last(digest);

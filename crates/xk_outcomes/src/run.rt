@@ -7,6 +7,7 @@ ghost use Rattle.xk_outcomes.specs.Search.{IsFoundBy, LeadsOn};
 use crate::found::{Found, private_act};
 use std::alloc::{AllocError, Global};
 use xk_core::Core;
+use xk_rank_digests::act_of_rank;
 use xk_types::Act;
 
 /// A run to a world that is found.
@@ -76,14 +77,15 @@ impl<'m> Run<'m> {
         Ok(())
     }
 
-    /// Steps of these activities, the first of which stands first, and private steps behind each.
-    pub fn go_through(&mut self, acts: &[u32]) -> Result<(), AllocError>
-        ensures to { OnOk result (self.new.to ≡ through acts.now self.old.to) }
+    /// Steps of activities of these ranks, the first of which stands first, and private steps behind each.
+    pub fn go_through(&mut self, ranks: &[u32]) -> Result<(), AllocError>
+        ensures to { OnOk result (self.new.to ≡ through ranks.now self.old.to) }
         ensures leads { OnOk result
             (LeadsOn self.old.schedule.items self.old.to self.new.schedule.items self.new.to) }
     {
-        for act in acts {
-            self.go_on(Act(*act))?;
+        for rank in ranks {
+            let act = act_of_rank(&self.to.core, *rank);
+            self.go_on(act)?;
         }
         Ok(())
     }

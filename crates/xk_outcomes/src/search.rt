@@ -15,6 +15,7 @@ use crate::order::Order;
 use std::alloc::{AllocError, Global};
 use xk_closed_sets::{Footprints, closed_set};
 use xk_core::Core;
+use xk_rank_digests::rank_of;
 use xk_readings::Edge;
 use xk_types::Act;
 
@@ -66,10 +67,11 @@ fn link_after(
     let _activities = here.core.activities();
     links.reserve(1)?;
     let printed = behind(&here.printed, &new.printed);
+    let rank = rank_of(&here.core, act);
     let to = all.add(alloc, number, act, new)?;
     links.push_reserved(Edge {
         from: number,
-        act: act.0,
+        act: rank,
         printed,
         to,
     });

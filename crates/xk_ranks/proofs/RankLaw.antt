@@ -39,7 +39,7 @@ use Rattle.xk_ranks.proofs.RankStepLaw.{IsFit, mark_of, marked_alive, step-kept}
 -- ---- worlds that are reached
 
 -- who is marked hasn't ended
-alive_marked : (acts : List Activity) (b : ℕ) (x : Activity) → slice_get acts b ≡ Some x → IsMarked (going acts) b
+pub alive_marked : (acts : List Activity) (b : ℕ) (x : Activity) → slice_get acts b ≡ Some x → IsMarked (going acts) b
     → is_ended x.status ≡ false
 alive_marked acts b x found at = by (is_ended x.status) (same_Some _ _ (sym (mark_of acts b x found) ∙ at))
   where
@@ -56,7 +56,7 @@ ended_unmarked acts b x found at = by (is_ended x.status) (same_Some _ _ (sym (m
     by false h = absurd (true≢false h)
 
 -- an activity has each mark
-marked_act : (acts : List Activity) (b : ℕ) (p : Bool) → slice_get (going acts) b ≡ Some p
+pub marked_act : (acts : List Activity) (b : ℕ) (p : Bool) → slice_get (going acts) b ≡ Some p
     → (x : Activity) × (slice_get acts b ≡ Some x)
 marked_act acts b p at = by (slice_get acts b) refl
   where
@@ -74,7 +74,7 @@ stands_apart st since last standing.Signalled over h = absurd (true≢false (sym
 stands_apart st since last standing.Ahead over h = absurd (true≢false (sym over ∙ h.0))
 
 module _ (m : ModuleValue) (limits : IsWithinLimits m) (ok : IsAccepted m) where
-  reached_fit : (w : World) → IsReached m w → IsFit w
+  pub reached_fit : (w : World) → IsReached m w → IsFit w
   reached_fit w here = record {
     clear = λ j c at. clear c (sound.clocks j c at);
     owned = core_owned m w core;
@@ -164,7 +164,7 @@ rank_ends live w v same = sym (ended_remains w) ∙ live_ends live (remains w) (
 pub one_number : (w v : World) (a b c : ℕ) → HaveOneRank w a v b → HaveOneRank w a v c → b ≡ c
 one_number w v a b c h g = one_rank (going v.activities) b c h.second g.second (sym h.same ∙ g.same)
 
-one_turned : (w v : World) (a b : ℕ) → HaveOneRank w a v b → HaveOneRank v b w a
+pub one_turned : (w v : World) (a b : ℕ) → HaveOneRank w a v b → HaveOneRank v b w a
 one_turned w v a b h = record { first = h.second; second = h.first; same = sym h.same }
 
 module _ (m : ModuleValue) (limits : IsWithinLimits m) (ok : IsAccepted m) where

@@ -96,7 +96,7 @@ any-kept test (false ∷ ms) (x ∷ xs) h none =
 
 -- ---- ranks
 
-rank_zero : (ms : List Bool) → rank ms zero ≡ zero
+pub rank_zero : (ms : List Bool) → rank ms zero ≡ zero
 rank_zero [] = refl
 rank_zero (b ∷ ms) = refl
 

@@ -5,7 +5,7 @@
 pub struct Edge {
     /// The node where it begins.
     pub from: usize,
-    /// The activity that takes it.
+    /// Who takes it, by a number that the graph's maker chose: an activity's own, or its rank.
     pub act: u32,
     /// What it prints, if it prints a number.
     pub printed: Option<i64>,

@@ -56,6 +56,7 @@ returns-clause-all c done =
     c.module-verified.ensures.taken
     (c.module-verified.ensures.opening c.requires)
     liveness
+    (subst (λ (s : CoreValue). AreFound s all) begun c.len-count.ensures.found)
     (subst (λ k. AreExpanded k like all links (length all)) same_module (c.in_ok-complete.ensures.expanded done))
     (c.search.ensures.grown 0 first (ap (λ (e : EntriesValue). slice_get e.all 0) c.in_ok-found.ensures.first)))
 

@@ -10,6 +10,16 @@ use Rattle.xk_outcomes.proofs.EntriesLemmas.{entries_push, led_push, new_found}
 use Rattle.xk_outcomes.proofs.SearchLemmas.{grown_push}
 use Rattle.xk_outcomes.proofs.entries.Entries.add.Goals as goal
 
+pub known-requires-clause-found : goal.known-requires-clause-found
+known-requires-clause-found c =
+    let start = c.self.inside.start in
+    let edges = c.self.inside.edges.items in
+    let new = c.args.new.now in
+    let x = c.requires.0 in
+    let there : slice_get (led_by start edges) c.args.from ≡ Some x =
+    subst (λ (e : EntriesValue). slice_get e.all c.args.from ≡ Some x) (sym c.self.view_is) c.requires.1 in
+    subst (λ (e : EntriesValue). IsFound e.start new) c.self.view_is (new_found start edges c.args.from c.args.act x new there c.requires.2)
+
 pub invariant_of-self-2 : goal.invariant_of-self-2
 invariant_of-self-2 c =
     let start = c.self.inside.start in
@@ -27,14 +37,12 @@ invariant_of-self-2 c =
     ∙ ap (λ (b : Bool). over ++ b ∷ []) ended in
     let there : slice_get (led_by start edges) c.args.from ≡ Some x =
     subst (λ (e : EntriesValue). slice_get e.all c.args.from ≡ Some x) (sym c.self.view_is) c.requires.1 in
-    let found : IsFound c.args.self.now.start new =
-    subst (λ (e : EntriesValue). IsFound e.start new) c.self.view_is (new_found start edges c.args.from c.args.act x new there c.requires.2) in
     let digest = c.in_ok-push.ensures.more ∙ ap (λ (d : ℕ). digests ++ d ∷ []) c.in_ok-digest.ensures in
     entries_push start like edges c.push_reserved.new.self.items digests c.push.new.self over c.push_reserved-2.new.self.items c.self.inside.checkpoints.items edge x
     new c.self.invariant more
     digest still there c.requires.2
     (λ has. subst (λ o. IfNone o (Has c.args.self.now.like c.args.self.now.all new.core.world new.printed → ⊥)) c.in-None.is
-    (c.in_ok-known.ensures.no found) (subst (λ (e : EntriesValue). Has e.like e.all new.core.world new.printed) c.self.view_is has))
+    c.in_ok-known.ensures.no (subst (λ (e : EntriesValue). Has e.like e.all new.core.world new.printed) c.self.view_is has))
 
 pub returns-clause-grown : goal.returns-clause-grown
 returns-clause-grown c k y h =

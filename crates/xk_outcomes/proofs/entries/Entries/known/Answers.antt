@@ -1,4 +1,4 @@
-use Rattle.std.proofs.Common.{◌≡◌, ◌∙◌, ◌-◌, ℕ, List, Some, ap, length, map, slice_get, subst, sym}
+use Rattle.std.proofs.Common.{◌≡◌, ◌∙◌, ◌-◌, ℕ, List, Some, ap, arith, length, map, slice_get, subst, sym}
 use Rattle.std.proofs.lemmas.Option.{slice_get_within}
 use Rattle.xk_digests.specs.Digests.{IsLast}
 use Rattle.xk_outcomes.specs.Entries.{EntriesValue}
@@ -16,11 +16,11 @@ loop-at-init c =
     let found = subst (λ d. IsLast (map (found_digest like) all) d (length (map (found_digest like) all)) at) c.requires.digest last in
     record {
       there = last.there;
-      none = λ is_found. none_behind like all c.args.new.now at found;
+      none = none_behind like all c.args.new.now at found;
     }
 
-pub is_same_at-requires : goal.is_same_at-requires
-is_same_at-requires c =
+pub is_same_at-requires-clause-number : goal.is_same_at-requires-clause-number
+is_same_at-requires-clause-number c =
     let at = c.loop-at.at in
     within c.args.self.now.like c.args.self.now.all c.args.digest (at - 1) (c.loop-at.invariant.there (at - 1) (one_before at c.loop-at-test.true))
 
@@ -46,7 +46,9 @@ loop-at-preserved c =
     let found = subst (λ d. IsLast (map (found_digest like) all) d (at - 1) next) c.requires.digest last in
     record {
       there = last.there;
-      none = λ is_found.
-          let here = c.in_ok-is_same_at.ensures.no is_found c.if-branch.false in
-          none_between like all new at next c.loop-at-test.true (c.loop-at.invariant.none is_found) here found;
+      none = none_between like all new at next c.loop-at-test.true c.loop-at.invariant.none
+          (c.in_ok-is_same_at.ensures.no c.if-branch.false) found;
     }
+
+pub returns-clause-no : goal.returns-clause-no
+returns-clause-no c has = c.loop-at.invariant.none has.0 (omega (arith, c.loop-at-test.false)) has.1.0 has.1.1 has.1.2

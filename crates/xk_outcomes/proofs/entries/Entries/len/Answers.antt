@@ -1,6 +1,6 @@
 use Rattle.std.proofs.Common.{◌≡◌, ◌+◌, length, subst, arith}
 use Rattle.xk_outcomes.specs.Entries.{EntriesValue}
-use Rattle.xk_outcomes.specs.Search.{AreFound, AreSettled}
+use Rattle.xk_outcomes.specs.Search.{AreDifferent, AreFound, AreSettled}
 use Rattle.xk_outcomes.proofs.EntriesLemmas.{all_led, all_settled, many_led}
 use Rattle.xk_outcomes.proofs.entries.Entries.len.Goals as goal
 
@@ -16,3 +16,6 @@ returns-clause-found c = subst (λ (e : EntriesValue). AreFound e.start e.all) c
 
 pub returns-clause-settled : goal.returns-clause-settled
 returns-clause-settled c = subst (λ (e : EntriesValue). AreSettled e.start e.all) c.self.view_is (all_settled c.self.inside.start c.self.inside.edges.items)
+
+pub returns-clause-different : goal.returns-clause-different
+returns-clause-different c = subst (λ (e : EntriesValue). AreDifferent e.like e.all) c.self.view_is c.self.invariant.different

@@ -10,7 +10,6 @@ use Rattle.xk_outcomes.specs.Links.{AreLinked, ends}
 use Rattle.xk_outcomes.specs.Listing.{ArePlayed}
 use Rattle.xk_outcomes.proofs.EntriesLemmas.{all_led, first_there}
 use Rattle.xk_outcomes.proofs.FollowLemmas.{longest_read}
-use Rattle.xk_outcomes.proofs.FoundLemmas.{first_silent}
 use Rattle.xk_outcomes.proofs.PathLemmas.{played}
 use Rattle.xk_outcomes.proofs.entries.Entries.longest.Goals as goal
 
@@ -39,4 +38,5 @@ returns-clause-played c links linked =
     let here : AreLinked live start.module_run all links =
     subst (λ (e : EntriesValue). AreLinked (live_by e.like) e.start.module_run e.all links) (sym c.self.view_is) linked in
     subst (λ (e : EntriesValue). ArePlayed e.start e.all links) c.self.view_is
-    (played start live c.self.invariant.liveness all links here (all_led start edges) (first_there start edges) (first_silent start limits accepted))
+    (played start live c.self.invariant.liveness all links here (all_led start edges) (first_there start edges) limits accepted
+    c.module-verified.ensures.taken (c.module-verified.ensures.opening c.self.invariant.root))

@@ -1,0 +1,4 @@
+pub mod NumberLemmas
+pub mod RankDigestLemmas
+pub mod RootLemmas
+pub mod RankLikenessLemmas
