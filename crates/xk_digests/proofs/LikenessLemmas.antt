@@ -1,20 +1,17 @@
 -- Worlds are alike where slots are live if their parts are, one by one.
-use Rattle.std.proofs.Common.{◌≡◌, ◌∙◌, ℕ, zero, suc, ◌+◌, ◌<◌, Bool, true, false, true≢false, cond, List}
+use Rattle.std.proofs.Common.{◌≡◌, ◌∙◌, ℕ, zero, suc, ◌+◌, ◌<◌, Bool, true, false, cond, List}
 use Rattle.std.proofs.Common.{[], ◌∷◌, length, map, Some}
-use Rattle.std.proofs.Common.{refl, sym, ap, subst, arith, slice_get, get_or, take, ext_get_or, ◌≤◌, Decides}
+use Rattle.std.proofs.Common.{refl, sym, ap, arith, slice_get, get_or, take, ext_get_or, ◌≤◌, Decides}
 use Rattle.std.proofs.lemmas.List.{get_or-map, length-map, take_all}
 use Rattle.std.proofs.lemmas.Option.{none-some, same_Some, slice_get-get_or}
 use Rattle.xk_types.specs.declared.world.Value.{Value}
 use Rattle.xk_types.specs.declared.world.Value.TheVariants as value
-use Rattle.xk_types.specs.declared.world.Status.{Status}
 use Rattle.xk_types.specs.declared.world.Status.TheVariants as status
-use Rattle.xk_types.specs.World.{Activity, Frame, World}
+use Rattle.xk_types.specs.World.{Activity, Frame}
 use Rattle.xk_activity.specs.Activities.{act_at, nobody}
-use Rattle.xk_law_commute.specs.PlainWorlds.{plain_clock}
-use Rattle.xk_liveness.specs.Liveness.{AreAlikeWhereLive, SlotTable, callers_left, frame_left, live_activity, live_part, masked}
+use Rattle.xk_liveness.specs.Liveness.{SlotTable, live_activity, masked}
 use Rattle.xk_liveness.specs.Liveness.{present, waiting}
-use Rattle.xk_liveness.proofs.MaskLemmas.{agree_get, nil_cons, same_first, same_rest}
-use Rattle.xk_digests.specs.Likeness.{AreSameFrom, HasSameLeft}
+use Rattle.xk_digests.specs.Likeness.{AreSameFrom}
 
 -- ---- slots under masks
 

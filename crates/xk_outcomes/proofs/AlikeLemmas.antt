@@ -1,6 +1,6 @@
 -- Worlds that are alike by rank: activities of one rank have private steps in both or in neither, and those that were found there go on alike.
 use Rattle.std.proofs.Common.{◌≡◌, ◌∙◌, ℕ, ℤ, zero, suc, ◌<◌, ◌≤◌, ◌⊎◌, inl, inr, Bool, true, false, true≢false, ◌&&◌, List}
-use Rattle.std.proofs.Common.{[], ◌∷◌, ◌++◌, length, Option, Some, None, refl, sym, ap, subst, append_assoc, arith, slice_get}
+use Rattle.std.proofs.Common.{[], ◌++◌, length, Option, Some, None, refl, sym, ap, subst, append_assoc, arith}
 use Rattle.std.specs.Option.{option_map_or, option_to_list}
 use Rattle.std.proofs.lemmas.List.{append-nil}
 use Rattle.std.proofs.lemmas.Option.{none-some, same_Some, slice_get_within}
@@ -23,7 +23,6 @@ use Rattle.xk_ranks.specs.Ranks.{AreReachedAlike, HaveOneRank, StandAlike, going
 use Rattle.xk_ranks.proofs.RankLaw.{go_by_rank, one_number, stand_alike as stand_by_rank}
 use Rattle.xk_ranks.proofs.RankListLemmas.{IsMarked, rank_less}
 use Rattle.xk_ranks.proofs.RankStepLaw.{marked_alive}
-use Rattle.xk_rank_digests.specs.Numbers.{number_of}
 use Rattle.xk_rank_digests.proofs.NumberLemmas.{going_length, number_here, number_rank}
 use Rattle.xk_outcomes.specs.PrivateSteps.{has_private_step}
 use Rattle.xk_outcomes.specs.Found.{FoundValue, act_of, at_rest, least, least_private, next, next_by_rank, one_more, or_this, settled, with_outcome, with_step}

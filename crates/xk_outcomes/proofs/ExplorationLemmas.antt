@@ -1,5 +1,5 @@
 -- Where each that was found was looked at, nothing is missed.
-use Rattle.std.proofs.Common.{◌≡◌, ◌∙◌, ℕ, ℤ, zero, suc, ◌≤◌, ◌⊎◌, inl, inr, true, List, []}
+use Rattle.std.proofs.Common.{◌≡◌, ◌∙◌, ℕ, ℤ, zero, suc, ◌≤◌, inl, inr, true, List, []}
 use Rattle.std.proofs.Common.{◌∷◌, ◌++◌, length, None, Some, refl, sym, ap, subst, append_assoc, arith, eq-eqb, eqb-true, slice_get}
 use Rattle.std.specs.Option.{option_to_list}
 use Rattle.std.specs.Prelude.{fold}

@@ -1,29 +1,29 @@
 -- What is read along links is listed in rising order, behind what was listed.
 use Rattle.std.proofs.Common.{◌≡◌, ◌∙◌, ℕ, ℤ, zero, suc, ◌+◌, ◌<◌, ◌≤◌, ◌⊎◌, inl, inr, Bool, true, false, List, [], ◌∷◌, ◌++◌}
 use Rattle.std.proofs.Common.{length, map, Some, refl, sym, ap, subst, arith, slice_get}
-use Rattle.std.proofs.lemmas.Bool.{cases_lt, true≢false}
-use Rattle.std.proofs.lemmas.List.{length-map, length_push}
+use Rattle.std.proofs.lemmas.Bool.{cases_lt}
+use Rattle.std.proofs.lemmas.List.{length-map}
 use Rattle.std.proofs.lemmas.Option.{none-some, same_Some, slice_get_within}
 use Rattle.xk_types.specs.Code.{ModuleValue}
 use Rattle.xk_core.specs.Core.{CoreValue, opening_core}
 use Rattle.xk_readings.specs.declared.edge.Edge.{Edge}
 use Rattle.xk_readings.specs.declared.listing.Reading.{Reading}
 use Rattle.xk_readings.specs.Graphs.{graph}
-use Rattle.xk_readings.specs.Readings.{AreShown, IsListed as IsRead, Reads}
+use Rattle.xk_readings.specs.Readings.{AreShown, IsListed as IsRead}
 use Rattle.xk_readings.specs.Rising.{AreFirst, AreRising, ComesBefore}
 use Rattle.xk_readings.specs.Sets.{Has}
 use Rattle.xk_readings.proofs.ListLemmas.{place}
 use Rattle.xk_readings.proofs.RisingLemmas.{rising_most}
-use Rattle.xk_types.proofs.ListLemmas.{get-append_left as stays, get_inside as there_is, get_once as same_at, get_push as at_end}
+use Rattle.xk_types.proofs.ListLemmas.{get_once as same_at, get_push as at_end}
 use Rattle.xk_outcomes.specs.declared.listing.Outcome.{Outcome}
 use Rattle.xk_outcomes.specs.declared.order.Order.{Order}
 use Rattle.xk_outcomes.specs.declared.order.Order.TheVariants as order
 use Rattle.xk_outcomes.specs.Found.{FoundValue}
 use Rattle.xk_outcomes.specs.Links.{LeadTo, ends}
-use Rattle.xk_outcomes.specs.Listing.{AreAllIn, ArePlayed, IsPlayed, KeepsListed}
+use Rattle.xk_outcomes.specs.Listing.{AreAllIn, ArePlayed, KeepsListed}
 use Rattle.xk_outcomes.specs.Numbering.{AreAddedFrom, AreBefore, AreInOrder, AreInOrderIn, AreNumbered, AreNumberedIn, ArePlayedAll}
 use Rattle.xk_outcomes.specs.Numbering.{AreReadingsFirst, AreRisingFrom, IsAddedAs}
-use Rattle.xk_outcomes.specs.Outcomes.{AreDistinct, IsListed, IsOutcome}
+use Rattle.xk_outcomes.specs.Outcomes.{IsListed}
 use Rattle.xk_outcomes.specs.PlainRuns.{plain_runs}
 use Rattle.xk_outcomes.specs.Search.{AreAllFound}
 use Rattle.xk_outcomes.proofs.FollowLemmas.{read_to}

@@ -1,5 +1,5 @@
 -- In which order outcomes are numbered. This project's own.
-use Rattle.std.specs.Prelude.{◌≡◌, ℕ, ◌<◌, ◌≤◌, ◌⊎◌, ℤ, Bool, true, false, List, [], ◌∷◌, ◌++◌, length, Some, slice_get}
+use Rattle.std.specs.Prelude.{◌≡◌, ℕ, ◌<◌, ◌≤◌, ◌⊎◌, ℤ, Bool, true, false, List, [], ◌∷◌, ◌++◌, Some, slice_get}
 use Rattle.xk_types.specs.Code.{ModuleValue}
 use Rattle.xk_readings.specs.declared.edge.Edge.{Edge}
 use Rattle.xk_readings.specs.declared.listing.Reading.{Reading}

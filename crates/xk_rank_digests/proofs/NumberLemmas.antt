@@ -1,8 +1,8 @@
 -- Tables of ranks and of numbers, with one activity more.
 use Rattle.std.proofs.Common.{◌≡◌, ℕ, zero, suc, ◌+◌, ◌<◌, ◌≤◌, Bool, true, false, true≢false, List, [], ◌∷◌, ◌++◌, length, not, Option, Some, refl, sym, ap, ◌∙◌, subst, arith}
-use Rattle.std.specs.Prelude.{slice_get, take}
+use Rattle.std.specs.Prelude.{slice_get}
 use Rattle.std.specs.Option.{option_map_or}
-use Rattle.std.proofs.lemmas.List.{length-map, length_push, take_all}
+use Rattle.std.proofs.lemmas.List.{length-map, length_push}
 use Rattle.std.proofs.lemmas.Option.{none-some, same_Some}
 use Rattle.xk_types.specs.World.{Activity, World, is_ended}
 use Rattle.xk_types.proofs.ListLemmas.{get_inside, each_push}
@@ -49,21 +49,6 @@ going_of w a inside =
     let x = get_inside w.activities a inside in
     mark_of w.activities a x.0 x.1
     ∙ ap (λ (o : Option Activity). Some (option_map_or (λ (y : Activity). not (is_ended y.status)) o false)) (sym x.1)
-
--- so many of them, and one more
-pub going_more : (w : World) (a : ℕ) (marks new : List Bool) (b : Bool) → a < length w.activities → b ≡ is_living w a
-    → marks ≡ take a (going w.activities) → new ≡ marks ++ b ∷ [] → new ≡ take (a + 1) (going w.activities)
-going_more w a marks new b inside is before more =
-    more ∙ (λ i. before i ++ is i ∷ []) ∙ by (going w.activities) a (going_of w a inside)
-    ∙ (let e : suc a ≡ a + 1 = omega arith in ap (λ k. take k (going w.activities)) e)
-  where
-    by : (ms : List Bool) (k : ℕ) → slice_get ms k ≡ Some (is_living w a) → take k ms ++ is_living w a ∷ [] ≡ take (suc k) ms
-    by [] k h = absurd (none-some _ h)
-    by (m ∷ ms) zero h = ap (λ b. b ∷ []) (sym (same_Some m (is_living w a) h))
-    by (m ∷ ms) (suc k) h = ap (λ l. m ∷ l) (by ms k h)
-
-pub going_all : (w : World) (n : ℕ) → length w.activities ≤ n → take n (going w.activities) ≡ going w.activities
-going_all w n most = (let many = going_length w.activities in take_all n (going w.activities) (omega (arith, many, most)))
 
 module _ (w : World) (a : ℕ) (inside : a < length w.activities) (b : Bool) (is : b ≡ is_living w a) where
   -- one that hasn't ended is one more
@@ -117,15 +102,13 @@ ranks_none ms = record { many = refl; each = λ a r h. absurd (none-some r h) }
 pub numbers_none : (ms : List Bool) → AreNumbers ms 0 []
 numbers_none ms = record { many = sym (rank_zero ms); each = λ r a h. absurd (none-some a h) }
 
--- a table for as many as there are marks
-pub table_of : (w : World) (marks : List Bool) (ranks numbers : List ℕ) → marks ≡ going w.activities
-    → AreRanks (going w.activities) (length w.activities) ranks → AreNumbers (going w.activities) (length w.activities) numbers
-    → IsTable marks ranks numbers
-table_of w marks ranks numbers same are have =
-    subst (λ ms. IsTable ms ranks numbers) (sym same) (record {
-      ranks_are = subst (λ n. AreRanks (going w.activities) n ranks) (sym (going_length w.activities)) are;
-      numbers_are = subst (λ n. AreNumbers (going w.activities) n numbers) (sym (going_length w.activities)) have;
-    })
+-- a table for as many as there are activities
+pub table_of : (w : World) (ranks numbers : List ℕ) → AreRanks (going w.activities) (length w.activities) ranks
+    → AreNumbers (going w.activities) (length w.activities) numbers → IsTable (going w.activities) ranks numbers
+table_of w ranks numbers are have = record {
+  ranks_are = subst (λ n. AreRanks (going w.activities) n ranks) (sym (going_length w.activities)) are;
+  numbers_are = subst (λ n. AreNumbers (going w.activities) n numbers) (sym (going_length w.activities)) have;
+}
 
 -- ---- the number of a rank
 

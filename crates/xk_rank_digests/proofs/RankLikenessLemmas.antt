@@ -41,7 +41,7 @@ below_more P n before here k less = elim (same_or_not k n) [
 -- ---- numbers
 
 -- as many are kept as are marked
-pub many_kept : {X : Type 0} (ms : List Bool) (xs : List X) → length ms ≡ length xs → length (kept ms xs) ≡ rank ms (length ms)
+many_kept : {X : Type 0} (ms : List Bool) (xs : List X) → length ms ≡ length xs → length (kept ms xs) ≡ rank ms (length ms)
 many_kept [] xs h = refl
 many_kept (b ∷ ms) [] h = absurd (omega (arith, h))
 many_kept (true ∷ ms) (x ∷ xs) h = ap suc (many_kept ms xs (omega (arith, h)))
@@ -57,7 +57,7 @@ marked_there w a r of =
     let x = marked_act w.activities a true of.marked in slice_get_within w.activities a x.0 x.1
 
 -- the activity of a rank
-pub act_left : (w : World) (a : ℕ) → IsMarked (going w.activities) a
+act_left : (w : World) (a : ℕ) → IsMarked (going w.activities) a
     → act_at (remains w).activities (rank (going w.activities) a) ≡ governed_ranked (going w.activities) (act_at w.activities a)
 act_left w a at =
     let x = marked_act w.activities a true at in
@@ -105,7 +105,7 @@ innermost_told m w a o core inside own b is = (
 -- ---- one activity
 
 -- the same at a rank
-abbrev pub IsSameAt : SlotTable → World → World → ℕ → Type 0
+abbrev IsSameAt : SlotTable → World → World → ℕ → Type 0
 IsSameAt live w v r = live_activity live (act_at (remains w).activities r) ≡ live_activity live (act_at (remains v).activities r)
 
 waiting_opened : (m : ModuleValue) (live : SlotTable) (fs : List Frame) → opened_by m (map (waiting live) fs) ≡ opened_by m fs
@@ -189,7 +189,7 @@ module _ (m : ModuleValue) (live : SlotTable) (w v : World) (one : IsCore m w) (
       ∙ opened_left m live x.status x.frame y.frame x.callers y.callers alive s.2.0 s.2.1
       ∙ sym ((reached_scoped m two.limits two.accepted v two.reached).activities b y at_y).opened
 
-  pub same_at : ((k : ℕ) → k < r → IsSameAt live w v k) → AreSameByRank live w a v b → IsSameAt live w v r
+  same_at : ((k : ℕ) → k < r → IsSameAt live w v k) → AreSameByRank live w a v b → IsSameAt live w v r
   same_at before s =
       let frames : frame_left live x.status x.frame ≡ frame_left live y.status y.frame =
       s.2.0 ∙ ap (λ st. frame_left live st y.frame) s.0 in
@@ -209,7 +209,7 @@ module _ (m : ModuleValue) (live : SlotTable) (w v : World) (one : IsCore m w) (
       })
       ∙ ap (live_activity live) (sym left_y)
 
-  pub at_same : IsSameAt live w v r → IsInnermost w x → IsInnermost v y → AreSameByRank live w a v b
+  at_same : IsSameAt live w v r → IsInnermost w x → IsInnermost v y → AreSameByRank live w a v b
   at_same alike p q =
       let h : live_activity live (governed_ranked (going w.activities) x) ≡ live_activity live (governed_ranked (going v.activities) y) =
       ap (live_activity live) (sym left_x) ∙ alike ∙ ap (live_activity live) left_y in
@@ -225,7 +225,7 @@ module _ (m : ModuleValue) (live : SlotTable) (w v : World) (one : IsCore m w) (
 -- ---- all activities
 
 -- there is one of each rank
-pub of_each_rank : (w : World) (r : ℕ) → r < length (remains w).activities → (a : ℕ) × IsOfRank (going w.activities) a r
+of_each_rank : (w : World) (r : ℕ) → r < length (remains w).activities → (a : ℕ) × IsOfRank (going w.activities) a r
 of_each_rank w r inside =
     let x = get_inside (remains w).activities r inside in
     let k = one_there (going w.activities) w.activities r x.0 x.1 in
@@ -303,7 +303,7 @@ at_rank live w v r a b here there p d = (
 -- ---- clocks
 
 -- where the activity of a rank stands
-pub standing_left : (w : World) (k a r : ℕ) (s : Standing) → IsOfRank (going w.activities) a r
+standing_left : (w : World) (k a r : ℕ) (s : Standing) → IsOfRank (going w.activities) a r
     → option_map (λ (c : Clock). standing_of c a) (slice_get w.clocks k) ≡ Some s
     → option_map (λ (c : Clock). standing_of c r) (slice_get (remains w).clocks k) ≡ Some s
 standing_left w k a r s of h =

@@ -12,7 +12,7 @@ use Rattle.xk_law_schedules.proofs.ReachabilityLemmas.{same_through, first_step}
 abbrev IsRooted : Finish → Type 0
 IsRooted f = f.owner ≡ None → f.depth ≡ 0
 
-abbrev pub AreRooted : List Activity → Type 0
+abbrev AreRooted : List Activity → Type 0
 AreRooted acts = Each (λ b (x : Activity). IsRooted x.governed) acts
 
 abbrev Roots : Outcome → Type 0

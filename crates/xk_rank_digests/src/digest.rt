@@ -2,16 +2,18 @@
 
 ghost use Rattle.std.specs.Prelude.{◌≡◌};
 ghost use Rattle.xk_live_slots.specs.LiveSlots.{live_of};
-ghost use Rattle.xk_rank_digests.specs.RankDigest.{rank_digest, stepwise_digest};
+ghost use Rattle.xk_rank_digests.specs.RankDigest.{rank_digest};
 
 use xk_core::Core;
 use xk_digests::{with_activity, with_numbers};
 use xk_live_slots::LiveSlots;
 use xk_types::Act;
 
-/// The digest, activity by activity.
-fn stepwise_digest(live: &LiveSlots<'_>, core: &Core<'_>, printed: &[i64]) -> u64
-    ensures { result ≡ stepwise_digest (live_of live.now) core.now.world printed.now }
+/// The digest of what of a core may still count, without the activities that have ended, these numbers being printed by then: worlds that
+/// are alike by rank have it in common.
+#[tactic(auto, using(crate::proofs::RankDigestLemmas::stepwise))]
+pub fn rank_digest_of(live: &LiveSlots<'_>, core: &Core<'_>, printed: &[i64]) -> u64
+    ensures { result ≡ rank_digest (live_of live.now) core.now.world printed.now }
 {
     let mut digest = with_numbers(with_numbers(0, printed), core.cells());
     for a in 0..core.activities() {
@@ -20,13 +22,4 @@ fn stepwise_digest(live: &LiveSlots<'_>, core: &Core<'_>, printed: &[i64]) -> u6
         }
     }
     digest
-}
-
-/// The digest of what of a core may still count, without the activities that have ended, these numbers being printed by then: worlds that
-/// are alike by rank have it in common.
-#[tactic(auto, using(crate::proofs::RankDigestLemmas::stepwise))]
-pub fn rank_digest_of(live: &LiveSlots<'_>, core: &Core<'_>, printed: &[i64]) -> u64
-    ensures { result ≡ rank_digest (live_of live.now) core.now.world printed.now }
-{
-    stepwise_digest(live, core, printed)
 }

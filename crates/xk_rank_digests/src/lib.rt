@@ -1,4 +1,5 @@
-//! Worlds without the activities that have ended, of running cores: ranks of activities, digests by rank, and whether worlds are alike by rank.
+//! Worlds of running cores without the activities that have ended: ranks of activities, digests by rank, and whether worlds are alike by
+//! rank.
 #![tactic(auto)]
 
 mod digest;
@@ -7,4 +8,4 @@ mod ranks;
 
 pub use digest::rank_digest_of;
 pub use likeness::are_alike_by_rank;
-pub use ranks::{Ranks, act_of_rank, rank_of};
+pub use ranks::{act_of_rank, rank_of};

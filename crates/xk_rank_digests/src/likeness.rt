@@ -1,103 +1,21 @@
 //! Whether worlds are alike by rank.
 
-ghost use Rattle.std.specs.Prelude.{◌≡◌, ◌<◌, length, IfOk, map, option_map};
+ghost use Rattle.std.specs.Prelude.{◌≡◌, ◌<◌, length, IfOk, map};
 ghost use Rattle.std.specs.Bool.{Decides};
 ghost use Rattle.xk_activity.specs.Activities.{act_at};
 ghost use Rattle.xk_live_slots.specs.LiveSlots.{live_of};
 ghost use Rattle.xk_law_commute.specs.PlainWorlds.{plain_clock};
 ghost use Rattle.xk_core.specs.Alikeness.{IsAlikeClock, StandsAlike};
-ghost use Rattle.xk_ranks.specs.Ranks.{going, rank, remains};
-ghost use Rattle.xk_rank_digests.specs.Numbers.{IsOfRank};
+ghost use Rattle.xk_ranks.specs.Ranks.{remains};
 ghost use Rattle.xk_rank_digests.specs.RankLikeness.{AreActsAlike, AreGovernedAlike, AreSameAtRank, AreSameByRank, AreToldAlike};
-ghost use Rattle.xk_rank_digests.specs.RankLikeness.{HaveSameNumbers, IsInnermost, IsLeftAlike};
+ghost use Rattle.xk_rank_digests.specs.RankLikeness.{HaveSameNumbers, IsLeftAlike};
 
-use crate::ranks::Ranks;
+use crate::ranks::Ranked;
 use std::alloc::{AllocError, Global};
-use std::marker::Model;
 use xk_core::Core;
 use xk_digests::{are_alike, are_same_numbers, has_same_left, is_same_standing, is_same_status};
 use xk_live_slots::LiveSlots;
 use xk_types::{Act, ClockId};
-
-/// A core, with the ranks of its activities.
-#[derive(Drop)]
-struct Ranked<'c, 'm> {
-    core: &'c Core<'m>,
-    ranks: Ranks,
-}
-
-impl<'c, 'm> Model for Ranked<'c, 'm> {
-    ghost use Rattle.std.specs.Prelude.{◌≡◌};
-    ghost use Rattle.xk_core.specs.Core.{CoreValue};
-    ghost use Rattle.xk_ranks.specs.Ranks.{going};
-
-    ghost Value = { CoreValue };
-
-    ghost view = { λ r. r.core.now };
-
-    ghost invariant = { λ r. r.ranks ≡ going r.core.now.world.activities };
-}
-
-impl<'c, 'm> Ranked<'c, 'm> {
-    /// A core with these.
-    fn of(alloc: Global, core: &'c Core<'m>) -> Result<Ranked<'c, 'm>, AllocError>
-        ensures { IfOk result (λ r. r ≡ core.now) }
-    {
-        let ranks = Ranks::of(alloc, core)?;
-        Ok(Ranked { core, ranks })
-    }
-
-    /// The core.
-    fn core(&self) -> &'c Core<'m>
-        ensures { result.now ≡ self.now }
-    {
-        self.core
-    }
-
-    /// How many activities haven't ended.
-    fn len(&self) -> usize
-        ensures { result ≡ length (remains self.now.world).activities }
-    {
-        self.ranks.len()
-    }
-
-    /// The activity of a rank.
-    fn act_of(&self, rank: usize) -> Act
-        requires { rank < length (remains self.now.world).activities }
-        ensures of { IsOfRank (going self.now.world.activities) result rank }
-        ensures there { result < length self.now.world.activities }
-    {
-        self.ranks.act_of(rank)
-    }
-
-    /// Whether the finish that governs the activity is the innermost of its owner, if somebody owns it.
-    fn is_innermost(&self, act: Act) -> bool
-        requires { act < length self.now.world.activities }
-        ensures { Decides result
-            (IsInnermost self.now.world (act_at self.now.world.activities act)) }
-    {
-        // For the owner: it is an activity.
-        let _activities = self.core.activities();
-        match self.core.governor(act) {
-            Some(owner) => self.core.is_under(owner, act),
-            None => true,
-        }
-    }
-
-    /// The rank of who owns the finish that governs the activity, if somebody does.
-    fn owner_rank(&self, act: Act) -> Option<u32>
-        requires { act < length self.now.world.activities }
-        ensures { result ≡ option_map (rank (going self.now.world.activities))
-            (act_at self.now.world.activities act).governed.owner }
-    {
-        // For the owner: it is an activity.
-        let _activities = self.core.activities();
-        match self.core.governor(act) {
-            Some(owner) => Some(self.ranks.rank_of(owner)),
-            None => None,
-        }
-    }
-}
 
 /// Whether it is the same number, or none both times.
 fn is_same_rank(rank: Option<u32>, other: Option<u32>) -> bool
@@ -184,8 +102,9 @@ fn are_same_activities(
 {
     let core = one.core();
     let others = other.core();
-    // For both: legal schedules of their module lead to their worlds.
+    // A legal schedule of its module leads to its world.
     let _activities = core.activities();
+    // And one to the other's.
     let _others = others.activities();
     for r in 0..one.len() {
         if !are_same_at(live, one, other, r)? {
@@ -224,8 +143,9 @@ fn is_same_clock(one: &Ranked<'_, '_>, other: &Ranked<'_, '_>, clock: ClockId) -
 {
     let core = one.core();
     let others = other.core();
-    // For both: each of their clocks has a standing for each activity.
+    // Each of its clocks has a standing for each activity.
     let _activities = core.activities();
+    // And each of the other's.
     let _others = others.activities();
     for r in 0..one.len() {
         if !stand_alike(one, other, clock, r) {
@@ -285,8 +205,8 @@ fn is_same_left(
     Ok(same)
 }
 
-/// Whether the worlds of two cores of one module are alike where slots are live, or by rank and with finishes that a core tells: then what can
-/// happen from now on is the same. Err where memory was refused.
+/// Whether the worlds of two cores of one module are alike where slots are live, or by rank and with finishes that a core tells: then what
+/// can happen from now on is the same. Err where memory was refused.
 pub fn are_alike_by_rank(
     alloc: Global,
     live: &LiveSlots<'_>,

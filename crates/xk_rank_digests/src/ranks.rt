@@ -1,45 +1,16 @@
 //! The ranks of activities among those that haven't ended.
 
-ghost use Rattle.std.specs.Prelude.{◌≡◌, ◌<◌, length, IfOk};
-ghost use Rattle.xk_ranks.specs.Ranks.{going, rank};
+ghost use Rattle.std.specs.Prelude.{◌≡◌, ◌<◌, length, IfOk, option_map};
+ghost use Rattle.std.specs.Bool.{Decides};
+ghost use Rattle.xk_activity.specs.Activities.{act_at};
+ghost use Rattle.xk_ranks.specs.Ranks.{going, rank, remains};
 ghost use Rattle.xk_rank_digests.specs.Numbers.{AreNumbers, AreRanks, IsOfRank, number_of};
+ghost use Rattle.xk_rank_digests.specs.RankLikeness.{IsInnermost};
 
 use std::alloc::{AllocError, Global};
 use std::marker::Model;
 use xk_core::Core;
 use xk_types::Act;
-
-/// For each activity of a core whether it hasn't ended, and how many of those before it haven't; and their numbers.
-#[derive(Drop)]
-pub struct Ranks {
-    going: Vec<bool>,
-    // for each how many before it haven't ended
-    ranks: Vec<u32>,
-    // the numbers of those that haven't, rising
-    numbers: Vec<u32>,
-}
-
-impl Model for Ranks {
-    ghost use Rattle.std.specs.Prelude.{Bool, List};
-    ghost use Rattle.xk_rank_digests.specs.Numbers.{IsTable};
-
-    ghost Value = { List Bool };
-
-    ghost view = { λ r. r.going.items };
-
-    ghost invariant = { λ r. IsTable r.going.items r.ranks.items r.numbers.items };
-}
-
-/// For each activity whether it hasn't ended.
-fn going_in(alloc: Global, core: &Core<'_>) -> Result<Vec<bool>, AllocError>
-    ensures { IfOk result (λ marks. marks.items ≡ going core.now.world.activities) }
-{
-    let mut marks = Vec::new(alloc);
-    for a in 0..core.activities() {
-        marks.push(core.is_living(Act(a)))?;
-    }
-    Ok(marks)
-}
 
 /// For each activity how many before it haven't ended.
 fn ranks_in(alloc: Global, core: &Core<'_>) -> Result<Vec<u32>, AllocError>
@@ -71,43 +42,94 @@ fn numbers_in(alloc: Global, core: &Core<'_>) -> Result<Vec<u32>, AllocError>
     Ok(numbers)
 }
 
-impl Ranks {
-    /// Those of a core. Err where memory was refused.
+/// A core, with the ranks of its activities and the numbers of those that haven't ended.
+#[derive(Drop)]
+pub struct Ranked<'c, 'm> {
+    core: &'c Core<'m>,
+    // for each activity how many before it haven't ended
+    ranks: Vec<u32>,
+    // the numbers of those that haven't, rising
+    numbers: Vec<u32>,
+}
+
+impl<'c, 'm> Model for Ranked<'c, 'm> {
+    ghost use Rattle.std.specs.Prelude.{◌≡◌};
+    ghost use Rattle.xk_core.specs.Core.{CoreValue};
+    ghost use Rattle.xk_ranks.specs.Ranks.{going};
+    ghost use Rattle.xk_rank_digests.specs.Numbers.{IsTable};
+
+    ghost Value = { CoreValue };
+
+    ghost view = { λ r. r.core.now };
+
+    ghost invariant = { λ r.
+        IsTable (going r.core.now.world.activities) r.ranks.items r.numbers.items };
+}
+
+impl<'c, 'm> Ranked<'c, 'm> {
+    /// A core with these. Err where memory was refused.
     #[tactic(auto, using(crate::proofs::NumberLemmas::table_of))]
-    pub fn of(alloc: Global, core: &Core<'_>) -> Result<Ranks, AllocError>
-        ensures { IfOk result (λ r. r ≡ going core.now.world.activities) }
+    pub fn of(alloc: Global, core: &'c Core<'m>) -> Result<Ranked<'c, 'm>, AllocError>
+        ensures { IfOk result (λ r. r ≡ core.now) }
     {
-        let going = going_in(alloc, core)?;
         let ranks = ranks_in(alloc, core)?;
         let numbers = numbers_in(alloc, core)?;
-        Ok(Ranks {
-            going,
+        Ok(Ranked {
+            core,
             ranks,
             numbers,
         })
     }
 
-    /// How many haven't ended.
+    /// The core.
+    pub fn core(&self) -> &'c Core<'m>
+        ensures { result.now ≡ self.now }
+    {
+        self.core
+    }
+
+    /// How many activities haven't ended.
     pub fn len(&self) -> usize
-        ensures { result ≡ rank self.now (length self.now) }
+        ensures { result ≡ length (remains self.now.world).activities }
     {
         self.numbers.len()
     }
 
-    /// How many of those before it haven't ended.
-    pub fn rank_of(&self, act: Act) -> u32
-        requires { act < length self.now }
-        ensures { result ≡ rank self.now act }
+    /// The activity of a rank.
+    pub fn act_of(&self, rank: usize) -> Act
+        requires { rank < length (remains self.now.world).activities }
+        ensures of { IsOfRank (going self.now.world.activities) result rank }
+        ensures there { result < length self.now.world.activities }
     {
-        self.ranks[act.0 as usize]
+        Act(self.numbers[rank])
     }
 
-    /// The activity that hasn't ended before which so many haven't.
-    pub fn act_of(&self, place: usize) -> Act
-        requires { place < rank self.now (length self.now) }
-        ensures { IsOfRank self.now result place }
+    /// Whether the finish that governs the activity is the innermost of its owner, if somebody owns it.
+    pub fn is_innermost(&self, act: Act) -> bool
+        requires { act < length self.now.world.activities }
+        ensures { Decides result
+            (IsInnermost self.now.world (act_at self.now.world.activities act)) }
     {
-        Act(self.numbers[place])
+        // For the owner: it is an activity.
+        let _activities = self.core.activities();
+        match self.core.governor(act) {
+            Some(owner) => self.core.is_under(owner, act),
+            None => true,
+        }
+    }
+
+    /// The rank of who owns the finish that governs the activity, if somebody does.
+    pub fn owner_rank(&self, act: Act) -> Option<u32>
+        requires { act < length self.now.world.activities }
+        ensures { result ≡ option_map (rank (going self.now.world.activities))
+            (act_at self.now.world.activities act).governed.owner }
+    {
+        // For the owner: it is an activity.
+        let _activities = self.core.activities();
+        match self.core.governor(act) {
+            Some(owner) => Some(self.ranks[owner.0 as usize]),
+            None => None,
+        }
     }
 }
 

@@ -1,5 +1,5 @@
 -- A lost update: main starts two that read a number, add 1 and write it; in two worlds different ones have ended. By evaluation.
-use Rattle.std.proofs.Common.{◌≡◌, ℕ, pos, Bool, true, false, true≢false, List, [], ◌∷◌, map, ap, sym, refl}
+use Rattle.std.proofs.Common.{◌≡◌, ℕ, pos, Bool, true, false, true≢false, [], ◌∷◌, map, ap, refl}
 use Rattle.std.specs.Prelude.{slice_index_or}
 use Rattle.xk_types.specs.declared.instr.Instr.TheVariants as instr
 use Rattle.xk_types.specs.declared.world.Status.TheVariants as status
@@ -10,7 +10,7 @@ use Rattle.xk_types.specs.Schedule.{Course, Through, Held, Wronged, run, is_enab
 use Rattle.xk_types.proofs.Examples.Notation.{fresh, main_with, body_with}
 use Rattle.xk_liveness.specs.Liveness.{AreAlikeWhereLive}
 use Rattle.xk_liveness.proofs.LivenessLaw.{all_live}
-use Rattle.xk_ranks.specs.Ranks.{going, rank, remains, AreAlikeByRank, HaveOneRank}
+use Rattle.xk_ranks.specs.Ranks.{going, remains, AreAlikeByRank, HaveOneRank}
 
 abbrev updates : ModuleValue
 updates = record {

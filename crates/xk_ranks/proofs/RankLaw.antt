@@ -1,11 +1,10 @@
 -- Worlds that are alike by rank go on alike.
-use Rattle.std.proofs.Common.{◌≡◌, ℕ, zero, suc, ◌&&◌, not, Bool, true, false, true≢false, List, [], ◌∷◌, map, length, Option, Some, None}
-use Rattle.std.proofs.Common.{option_map, get_or, refl, sym, ap, ◌∙◌, subst}
+use Rattle.std.proofs.Common.{◌≡◌, ℕ, ◌&&◌, not, Bool, true, false, true≢false, List, [], ◌∷◌, map, Option, Some, None}
+use Rattle.std.proofs.Common.{option_map, refl, sym, ap, ◌∙◌, subst}
 use Rattle.std.specs.Prelude.{slice_get, option_and_then}
 use Rattle.std.specs.List.{list_all}
 use Rattle.std.proofs.lemmas.List.{length-map}
 use Rattle.std.proofs.lemmas.Option.{slice_get-map, same_Some, none-some, get_or_from_slice_get}
-use Rattle.xk_types.specs.declared.instr.Instr.{Instr}
 use Rattle.xk_types.specs.declared.world.Event.{Event}
 use Rattle.xk_types.specs.declared.world.Standing.{Standing}
 use Rattle.xk_types.specs.declared.world.Standing.TheVariants as standing
@@ -16,7 +15,6 @@ use Rattle.xk_types.specs.Code.{ModuleValue, IsWithinLimits}
 use Rattle.xk_types.specs.World.{Activity, Clock, World, is_ended, standing_of, instruction_at}
 use Rattle.xk_types.specs.Step.{Outcome, Blocked, Wrong, Stepped, step}
 use Rattle.xk_types.specs.Schedule.{IsReached, all_ended, is_step, is_enabled}
-use Rattle.xk_types.proofs.ListLemmas.{get_inside}
 use Rattle.xk_law_schedules.proofs.Invariant.{Stands, IsSound, IsClockSound}
 use Rattle.xk_law_schedules.proofs.ReachabilityLemmas.{reached_sound, reached_step}
 use Rattle.xk_law_commute.specs.Conflicts.{next_instruction}
@@ -33,7 +31,7 @@ use Rattle.xk_scheduler.proofs.FinishOwnerLemmas.{core_owned, core_open}
 use Rattle.xk_ranks.specs.Ranks.{kept, rank, governed_ranked, clock_kept, acts_kept, with_only, going, remains, AreAlikeByRank}
 use Rattle.xk_ranks.specs.Ranks.{ComesToRemains, HaveOneRank, GoOnByRank, StandAlike, AreReachedAlike}
 use Rattle.xk_ranks.proofs.RankListLemmas.{IsMarked, map-kept, one_rank}
-use Rattle.xk_ranks.proofs.RankWorldLemmas.{IsClear, AreMarkedOwners, IsOne, one_there, act-kept}
+use Rattle.xk_ranks.proofs.RankWorldLemmas.{IsClear, one_there, act-kept}
 use Rattle.xk_ranks.proofs.RankStepLaw.{IsFit, mark_of, marked_alive, step-kept}
 
 -- ---- worlds that are reached

@@ -1,11 +1,11 @@
 -- A step by its rank does the same, in the world without the activities that have ended: walked over each instruction once.
 use Rattle.std.proofs.Common.{◌≡◌, ℕ, zero, suc, ◌+◌, ◌==◌, ℤ, ◌<◌, int_lt, int_le, not, Bool, true, false, true≢false, cond, List, []}
-use Rattle.std.proofs.Common.{◌∷◌, ◌++◌, map, length, set, Some, None, Option, option_map, inl, inr, ◌⊎◌, refl, sym, ap, ◌∙◌, subst}
+use Rattle.std.proofs.Common.{◌∷◌, ◌++◌, map, length, set, Some, None, Option, option_map, inl, inr, refl, sym, ap, ◌∙◌, subst}
 use Rattle.std.proofs.Common.{arith, length-set}
 use Rattle.std.specs.Prelude.{slice_get, option_and_then}
 use Rattle.std.specs.Int.{w64, int_min, int_wrapping_add, int_wrapping_sub, int_wrapping_mul}
 use Rattle.std.proofs.lemmas.List.{length-map, length_push}
-use Rattle.std.proofs.lemmas.Option.{slice_get-map, slice_get_within, same_Some, none-some}
+use Rattle.std.proofs.lemmas.Option.{slice_get-map, slice_get_within, same_Some}
 use Rattle.xk_types.specs.declared.instr.Instr.{Instr}
 use Rattle.xk_types.specs.declared.instr.Instr.TheVariants as instr
 use Rattle.xk_types.specs.declared.world.Value.{Value}
@@ -22,14 +22,14 @@ use Rattle.xk_types.specs.World.{Frame, Finish, Activity, Clock, World, is_ended
 use Rattle.xk_types.specs.Step.{Outcome, Blocked, Wrong, Stepped, ClockUse, OutOfRange, is_registered, number_in, clock_in, registered_on}
 use Rattle.xk_types.specs.Step.{put_in, slot_at, arguments_in, computing, no_further, beginning, turning, again, spawned, spawning}
 use Rattle.xk_types.specs.Step.{carried_out, run_at, made, moved, joined, new_clock, is_given, child, governing, waits, passing, passed}
-use Rattle.xk_types.specs.Step.{past, step_by, step_of, step, called, calling, back_in, returning, onward, going as gone, with_slots}
+use Rattle.xk_types.specs.Step.{past, step_by, step, called, calling, back_in, returning, onward, going as gone, with_slots}
 use Rattle.xk_types.specs.Step.{entered, left, ended, arrived, awaits, innermost, closing, cell_in, stored, done, none, only, all}
 use Rattle.xk_types.specs.Step.{resumed, dropped, settled}
 use Rattle.xk_types.proofs.ListLemmas.{Each, each_set, each_push, get-set_other, get_push, get-push_other}
 use Rattle.xk_law_schedules.proofs.ScopeLemmas.FinishOwnerLemmas.{AreOwned}
 use Rattle.xk_law_commute.proofs.AwaitIndependenceLemmas.{same_or_not}
 use Rattle.xk_law_commute.proofs.ListLemmas.{map_push}
-use Rattle.xk_ranks.specs.Ranks.{kept, rank, governed_ranked, clock_kept, acts_kept, with_only, going, remains, ComesToRemains}
+use Rattle.xk_ranks.specs.Ranks.{kept, rank, governed_ranked, clock_kept, acts_kept, going, remains, ComesToRemains}
 use Rattle.xk_ranks.proofs.RankListLemmas.{IsMarked, AreFewer}
 use Rattle.xk_ranks.proofs.RankWorldLemmas.{standing-kept, IsClear, AreClear, settled-kept, moved-kept, moved-clear, joined-kept}
 use Rattle.xk_ranks.proofs.RankWorldLemmas.{joined-clear, new-kept, new-clear, waits-kept, act-kept, set_act-kept, push_act-kept}

@@ -5,7 +5,7 @@ use Rattle.serde_json.specs.Data.{Data, array}
 use Rattle.serde_json.specs.View.{items_of}
 use Rattle.xk_json.specs.Objects.{array_of}
 use Rattle.xk_json.specs.Plain.{IsPlain}
-use Rattle.xk_json.proofs.ObjectLemmas.{array_plain, plain_deeper}
+use Rattle.xk_json.proofs.ObjectLemmas.{array_plain}
 use Rattle.xk_json.proofs.PlainLemmas.{AreFlat, number_plain, object_of_plain, text_plain}
 use Rattle.xk_types.specs.declared.world.Event.{Event}
 use Rattle.xk_show_events.specs.declared.steps.RunStep.{RunStep}

@@ -1,6 +1,5 @@
 -- What is told of a run that is timed is told of the log that it has.
 use Rattle.std.proofs.Common.{◌≡◌, ◌∙◌, ℕ, ℤ, Bool, List, ap}
-use Rattle.serde_json.specs.Data.{Data}
 use Rattle.xk_types.specs.declared.world.Entry.{Entry}
 use Rattle.xk_types.specs.Code.{ModuleValue}
 use Rattle.xk_show_events.specs.Events.{PlacesValue}

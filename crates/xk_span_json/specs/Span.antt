@@ -9,7 +9,7 @@ use Rattle.xk_types.specs.declared.world.Event.{Event}
 use Rattle.xk_types.specs.declared.world.Event.TheVariants as event
 use Rattle.xk_types.specs.Code.{ModuleValue}
 use Rattle.xk_show_events.specs.declared.steps.RunStep.{RunStep}
-use Rattle.xk_show_events.specs.Events.{PlacesValue, event_name, no_text, origin_of}
+use Rattle.xk_show_events.specs.Events.{PlacesValue, event_name, origin_of}
 use Rattle.xk_show_events.specs.Worlds.{each_below}
 use Rattle.xk_races.specs.declared.deeds.Deed.{Deed}
 use Rattle.xk_races.specs.Lists.{number_at}

@@ -1,6 +1,6 @@
 -- What is told of a world is plain: it has no float, and nests no deeper than an object in the making takes.
-use Rattle.std.proofs.Common.{◌≡◌, refl, ℕ, zero, suc, ℤ, pos, negsuc, Bool, true, false, List, [], ◌∷◌, ◌++◌, length, map, Option, Some, None}
-use Rattle.std.proofs.Common.{codes, subst, sym, arith}
+use Rattle.std.proofs.Common.{◌≡◌, refl, ℕ, ℤ, pos, negsuc, Bool, true, false, List, [], ◌∷◌, length, map, Option, Some, None}
+use Rattle.std.proofs.Common.{codes, arith}
 use Rattle.std.specs.Prelude.{cond, slice_get}
 use Rattle.std.specs.Option.{option_to_list}
 use Rattle.serde_json.specs.Data.{Data, array}
@@ -10,12 +10,11 @@ use Rattle.xk_json.specs.Plain.{IsPlain}
 use Rattle.xk_json.proofs.ObjectLemmas.{array_plain, plain_deeper}
 use Rattle.xk_json.proofs.PlainLemmas.{AreAllFlat, AreFlat, number_plain, object_of_plain, text_plain}
 use Rattle.xk_types.specs.declared.instr.Instr.{Instr}
-use Rattle.xk_types.specs.declared.world.Standing.{Standing}
 use Rattle.xk_types.specs.declared.world.Standing.TheVariants as standing
 use Rattle.xk_types.specs.declared.world.Value.{Value}
 use Rattle.xk_types.specs.declared.world.Value.TheVariants as value
 use Rattle.xk_types.specs.Code.{ModuleValue}
-use Rattle.xk_types.specs.World.{Activity, Frame, World}
+use Rattle.xk_types.specs.World.{Frame, World}
 use Rattle.xk_activity.specs.Activities.{act_at}
 use Rattle.xk_activity.specs.Local.{code_of}
 use Rattle.xk_core.specs.Core.{is_living}
@@ -30,7 +29,7 @@ use Rattle.xk_show_names.specs.ClockNames.{is_name}
 use Rattle.xk_show_where.specs.declared.condition.Condition.{Condition}
 use Rattle.xk_show_where.specs.declared.condition.Condition.TheVariants as condition
 use Rattle.xk_show_where.specs.declared.progress.Stop.{Stop}
-use Rattle.xk_show_where.specs.Excerpts.{ExcerptValue, excerpt_of}
+use Rattle.xk_show_where.specs.Excerpts.{excerpt_of}
 use Rattle.xk_show_where.specs.Where.{awaited_by, condition_of, holders_of, standing_on}
 use Rattle.xk_where_json.specs.Frames.{any_clock, any_number, frame_groups, frame_items, frame_value, held_items, named_bound, named_clock}
 use Rattle.xk_where_json.specs.Frames.{named_groups, named_number, names_value, own_members, slot_items, unnamed_number}

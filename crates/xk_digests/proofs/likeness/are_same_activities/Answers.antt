@@ -1,4 +1,4 @@
-use Rattle.std.proofs.Common.{refl, arith, subst}
+use Rattle.std.proofs.Common.{refl, arith}
 use Rattle.std.proofs.lemmas.Bool.{false≢true}
 use Rattle.xk_live_slots.specs.LiveSlots.{live_of}
 use Rattle.xk_digests.proofs.LikenessLemmas.{acts_same, same_acts}

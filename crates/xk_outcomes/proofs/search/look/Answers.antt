@@ -1,4 +1,4 @@
-use Rattle.std.proofs.Common.{◌≡◌, ◌∙◌, ap, Bool, List, inl, inr, refl, subst, sym, true}
+use Rattle.std.proofs.Common.{◌≡◌, ap, Bool, List, inl, inr, refl, subst, sym, true}
 use Rattle.std.specs.Prelude.{IfSome}
 use Rattle.std.proofs.lemmas.Result.{on_ok_weaker}
 use Rattle.xk_core.specs.Core.{CoreValue}

@@ -1,4 +1,4 @@
-use Rattle.std.proofs.Common.{◌≡◌, [], ◌∷◌, map}
+use Rattle.std.proofs.Common.{◌≡◌, map}
 use Rattle.serde_json.specs.View.{view}
 use Rattle.xk_show_events.specs.Worlds.{each_below}
 use Rattle.xk_where_json.specs.Standings.{shared_items}

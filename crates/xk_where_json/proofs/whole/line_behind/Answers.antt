@@ -1,4 +1,4 @@
-use Rattle.std.proofs.Common.{◌≡◌, ◌∙◌, ◌&&◌, Bool, OnOk, ap, map, subst}
+use Rattle.std.proofs.Common.{◌∙◌, ◌&&◌, Bool, ap, map, subst}
 use Rattle.std.specs.Prelude.{is_none}
 use Rattle.serde_json.specs.Data.{Data}
 use Rattle.xk_json.specs.Objects.{IsReadBack, json_line}

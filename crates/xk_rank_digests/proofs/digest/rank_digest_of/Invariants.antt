@@ -3,7 +3,7 @@ use Rattle.std.specs.Prelude.{fold}
 use Rattle.xk_live_slots.specs.LiveSlots.{live_of}
 use Rattle.xk_digests.specs.Digest.{with_numbers}
 use Rattle.xk_rank_digests.specs.RankDigest.{with_going}
-use Rattle.xk_rank_digests.proofs.digest.stepwise_digest.Given as goal
+use Rattle.xk_rank_digests.proofs.digest.rank_digest_of.Given as goal
 
 abbrev pub invariant-loop-a : goal.invariant-loop-a
 invariant-loop-a l = l.digest ≡ fold (with_going (live_of l.live)) (with_numbers (with_numbers 0 l.printed) l.core.world.cells)

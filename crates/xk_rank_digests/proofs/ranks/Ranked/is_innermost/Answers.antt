@@ -4,7 +4,7 @@ use Rattle.xk_activity.specs.Activities.{act_at}
 use Rattle.xk_core.specs.Core.{CoreValue}
 use Rattle.xk_rank_digests.specs.RankLikeness.{IsInnermost}
 use Rattle.xk_rank_digests.proofs.RankLikenessLemmas.{governor_is, owner_inside, innermost_told}
-use Rattle.xk_rank_digests.proofs.likeness.Ranked.is_innermost.Goals as goal
+use Rattle.xk_rank_digests.proofs.ranks.Ranked.is_innermost.Goals as goal
 
 pub is_under-requires : goal.is_under-requires
 is_under-requires c =

@@ -2,8 +2,8 @@ use Rattle.std.proofs.Common.{◌<◌, length, ◌∙◌, arith}
 use Rattle.xk_live_slots.specs.LiveSlots.{live_of}
 use Rattle.xk_digests.specs.Digest.{with_numbers}
 use Rattle.xk_rank_digests.proofs.RankDigestLemmas.{more_living, more_ended}
-use Rattle.xk_rank_digests.proofs.digest.stepwise_digest.Goals as goal
-use Rattle.xk_rank_digests.proofs.digest.stepwise_digest.Goals.{then-is_living, else-is_living}
+use Rattle.xk_rank_digests.proofs.digest.rank_digest_of.Goals as goal
+use Rattle.xk_rank_digests.proofs.digest.rank_digest_of.Goals.{then-is_living, else-is_living}
 
 pub loop-a-preserved : goal.loop-a-preserved
 loop-a-preserved c =
