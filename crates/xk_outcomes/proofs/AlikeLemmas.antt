@@ -1,4 +1,4 @@
--- Worlds that are alike by rank: activities of one rank have private steps in both or in neither, and those that were found there go on alike.
+-- Worlds that are alike by rank: activities of one rank have private steps in both or in neither, and go on alike.
 use Rattle.std.proofs.Common.{◌≡◌, ◌∙◌, ℕ, ℤ, zero, suc, ◌<◌, ◌≤◌, ◌⊎◌, inl, inr, Bool, true, false, true≢false, ◌&&◌, List}
 use Rattle.std.proofs.Common.{[], ◌++◌, length, Option, Some, None, refl, sym, ap, subst, append_assoc, arith}
 use Rattle.std.specs.Option.{option_map_or, option_to_list}
@@ -25,7 +25,8 @@ use Rattle.xk_ranks.proofs.RankListLemmas.{IsMarked, rank_less}
 use Rattle.xk_ranks.proofs.RankStepLaw.{marked_alive}
 use Rattle.xk_rank_digests.proofs.NumberLemmas.{going_length, number_here, number_rank}
 use Rattle.xk_outcomes.specs.PrivateSteps.{has_private_step}
-use Rattle.xk_outcomes.specs.Found.{FoundValue, act_of, at_rest, least, least_private, next, next_by_rank, one_more, or_this, settled, with_outcome, with_step}
+use Rattle.xk_outcomes.specs.Found.{FoundValue, act_of, at_rest, least, least_private, next, next_by_rank, one_more, or_this, settled}
+use Rattle.xk_outcomes.specs.Found.{with_outcome, with_step}
 use Rattle.xk_outcomes.proofs.FoundLemmas.{least_passes}
 use Rattle.xk_outcomes.proofs.PrivateStepLemmas.{private_enabled}
 use Rattle.xk_outcomes.proofs.RestLemmas.{none_passes}
@@ -33,7 +34,8 @@ use Rattle.xk_outcomes.proofs.RestLemmas.{none_passes}
 -- ---- ranks
 
 -- who can take a step is there, and hasn't ended
-pub enabled_there : (m : ModuleValue) (w : World) (a : ℕ) → is_enabled m w a ≡ true → (a < length w.activities) × IsMarked (going w.activities) a
+pub enabled_there : (m : ModuleValue) (w : World) (a : ℕ) → is_enabled m w a ≡ true
+    → (a < length w.activities) × IsMarked (going w.activities) a
 enabled_there m w a enabled =
     let u = enabled_step (step m w a) enabled in
     let x = found_of m w a u.0 u.1 u.2 in
@@ -134,26 +136,31 @@ module _ (m : ModuleValue) (limits : IsWithinLimits m) (ok : IsAccepted m) (live
       at : IsMarked (going w.activities) a
       at = (enabled_there m w a (private_enabled m w a mine)).1
 
-      by : (b : ℕ) → has_private_step m w b ≡ true → rank (going v.activities) c ≡ rank (going w.activities) b → b ≤ length (going w.activities)
+      by : (b : ℕ) → has_private_step m w b ≡ true → rank (going v.activities) c ≡ rank (going w.activities) b
+          → b ≤ length (going w.activities)
           → (b < a) ⊎ ((a ≡ b) ⊎ (a < b)) → rank (going w.activities) a ≤ rank (going v.activities) c
       by b has is within (inl before) = absurd (true≢false (sym has ∙ none_passes (has_private_step m w) a first b before))
       by b has is within (inr (inl here)) =
-          let ranks : rank (going w.activities) a ≡ rank (going w.activities) b = ap (rank (going w.activities)) here in omega (arith, is, ranks)
+          let ranks : rank (going w.activities) a ≡ rank (going w.activities) b =
+          ap (rank (going w.activities)) here in omega (arith, is, ranks)
       by b has is within (inr (inr behind)) = let less = rank_less (going w.activities) a b at behind within in omega (arith, is, less)
 
   -- the least has one rank in both, if there is one
   least_one : (w v : World) → Alike w v
       → AreOne w (least (has_private_step m w) (length w.activities)) v (least (has_private_step m v) (length v.activities))
-  least_one w v same = by (least (has_private_step m w) (length w.activities)) (least (has_private_step m v) (length v.activities)) refl refl
+  least_one w v same = by (least (has_private_step m w) (length w.activities))
+      (least (has_private_step m v) (length v.activities)) refl refl
     where
       -- where somebody has one there, somebody has one here
-      someone : (x y : World) (a : ℕ) → Alike x y → has_private_step m x a ≡ true → least (has_private_step m y) (length y.activities) ≡ None → ⊥
+      someone : (x y : World) (a : ℕ) → Alike x y → has_private_step m x a ≡ true
+          → least (has_private_step m y) (length y.activities) ≡ None → ⊥
       someone x y a alike has none =
           let b = private_there x y a alike has in
           let inside = (enabled_there m y b.0 (private_enabled m y b.0 b.2)).0 in
           true≢false (sym b.2 ∙ none_passes (has_private_step m y) (length y.activities) none b.0 inside)
 
-      by : (o p : Option ℕ) → least (has_private_step m w) (length w.activities) ≡ o → least (has_private_step m v) (length v.activities) ≡ p
+      by : (o p : Option ℕ) → least (has_private_step m w) (length w.activities) ≡ o
+          → least (has_private_step m v) (length v.activities) ≡ p
           → AreOne w o v p
       by None None f g = tt
       by None (Some b) f g = someone v w b (turned w v same) (least_passes (has_private_step m v) (length v.activities) b g) f
@@ -278,4 +285,5 @@ module _ (m : ModuleValue) (limits : IsWithinLimits m) (ok : IsAccepted m) (live
       let a : ℕ = act_of x.core.world r in
       let b : ℕ = act_of y.core.world r in
       let g = one_alike x y a b mx my same one in
-      joined x y (one_more a x) (one_more b y) (next a x) (next b y) g (rest_alike (one_more a x) (one_more b y) g.first_module g.second_module g.alike)
+      joined x y (one_more a x) (one_more b y) (next a x) (next b y) g
+      (rest_alike (one_more a x) (one_more b y) g.first_module g.second_module g.alike)

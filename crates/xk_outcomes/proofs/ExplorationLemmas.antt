@@ -53,7 +53,8 @@ module _ (m : ModuleValue) (limits : IsWithinLimits m) (ok : IsAccepted m) where
   private_first : (n b : ℕ) (w u : World) (e : Event) (numbers : List ℤ) → IsReached m w → has_private_step m w b ≡ true
       → step m w b ≡ Stepped u e → Goes m n w numbers → (k : ℕ) × (suc k ≡ n) × Goes m k u numbers
   private_first n b w u e numbers here private takes g =
-      let r = to_front m limits ok (alone b) g.list w g.last b here (private_closed m w b private) (eq-eqb b b refl) (private_enabled m w b private)
+      let r = to_front m limits ok (alone b) g.list w g.last b here (private_closed m w b private) (eq-eqb b b refl)
+      (private_enabled m w b private)
       g.legal g.ended in
       let t : Front m (alone b) r.0 w (printed m g.list w) = r.2 in
       let act : t.act ≡ b = eqb-true t.act b t.inside in
@@ -76,7 +77,8 @@ module _ (m : ModuleValue) (limits : IsWithinLimits m) (ok : IsAccepted m) where
 
 -- ---- all that was found
 
-module _ (like : Alikeness) (start : CoreValue) (all : List FoundValue) (links : List Edge) (limits : IsWithinLimits start.module_run) (ok : IsAccepted start.module_run)
+module _ (like : Alikeness) (start : CoreValue) (all : List FoundValue) (links : List Edge) (limits : IsWithinLimits start.module_run)
+    (ok : IsAccepted start.module_run)
     (taken : AreArguments start.module_run start.world.arguments) (begins : start.world ≡ opening start.module_run start.world.arguments)
     (liveness : IsLiveness start.module_run (live_by like)) (found : AreFound start all)
     (closed : AreExpanded start.module_run like all links (length all)) (first : slice_get all 0 ≡ Some (first_found start)) where
@@ -105,16 +107,19 @@ module _ (like : Alikeness) (start : CoreValue) (all : List FoundValue) (links :
 
   -- what so many steps lead to from there to the end, at most, is met
   abbrev Knows : ℕ → Type 0
-  Knows n = (k : ℕ) (x : FoundValue) (before rest : List ℤ) (j : ℕ) → j ≤ n → IsLed k x before → Goes m j x.core.world rest → IsMet (before ++ rest)
+  Knows n = (k : ℕ) (x : FoundValue) (before rest : List ℤ) (j : ℕ) → j ≤ n → IsLed k x before → Goes m j x.core.world rest
+      → IsMet (before ++ rest)
 
   -- a step, and private steps behind it, lead to a world that is like one of them, where the rest goes on
-  by_step : (n : ℕ) → Knows n → (k : ℕ) (x : FoundValue) (before : List ℤ) → IsLed k x before → (a : ℕ) (u : World) (e : Event) (rest : List ℤ) (j : ℕ) → j ≤ n
+  by_step : (n : ℕ) → Knows n → (k : ℕ) (x : FoundValue) (before : List ℤ) → IsLed k x before
+      → (a : ℕ) (u : World) (e : Event) (rest : List ℤ) (j : ℕ) → j ≤ n
       → step m x.core.world a ≡ Stepped u e → HasAfter m like all links k x a → Goes m j u rest
       → IsMet (before ++ (option_to_list (number_printed e) ++ rest))
   by_step n knows k x before led a u e rest j most takes after g =
       let more : List ℤ = option_to_list (number_printed e) in
       let c = after u e takes in
-      let on : GoesOn m limits ok j c.1 rest = past_private m limits ok c.0 j u c.1 rest (reached_step m x.core.world u a e (reached k x led.there) takes) c.2 g in
+      let on : GoesOn m limits ok j c.1 rest =
+      past_private m limits ok c.0 j u c.1 rest (reached_step m x.core.world u a e (reached k x led.there) takes) c.2 g in
       let y = c.4.0 in
       let l = c.5.1 in
       let alike : AreReachedAlike m live c.1 y.core.world =
@@ -142,11 +147,13 @@ module _ (like : Alikeness) (start : CoreValue) (all : List FoundValue) (links :
       (record { there = c.4.1; same = c.4.2.1 ∙ key_more like.order x.printed before more led.same; led = way }) goes)
 
   -- where no step is left
-  at_end : (k : ℕ) (x : FoundValue) (before rest : List ℤ) (last : World) → IsLed k x before → run m [] x.core.world ≡ Through last → all_ended last ≡ true
+  at_end : (k : ℕ) (x : FoundValue) (before rest : List ℤ) (last : World) → IsLed k x before → run m [] x.core.world ≡ Through last
+      → all_ended last ≡ true
       → printed m [] x.core.world ≡ rest → IsMet (before ++ rest)
   at_end k x before rest last led legal ended prints =
       subst (λ ns. IsMet (before ++ ns)) prints
-      (subst IsMet (sym (append-nil before)) (k, x, led.there, ap all_ended (same_through x.core.world last legal) ∙ ended, led.same, led.led))
+      (subst IsMet (sym (append-nil before))
+      (k, x, led.there, ap all_ended (same_through x.core.world last legal) ∙ ended, led.same, led.led))
 
   -- by a step of a closed set, or by the next step
   by_steps : (n : ℕ) → Knows n → (k : ℕ) (x : FoundValue) (before rest : List ℤ) (b : ℕ) (list : List ℕ) (last : World) → IsLed k x before
@@ -155,7 +162,8 @@ module _ (like : Alikeness) (start : CoreValue) (all : List FoundValue) (links :
       → IsExpanded m like all links k x
       → IsMet (before ++ rest)
   by_steps n knows k x before rest b list last led long legal ended prints (inl s) =
-      let r = to_front m limits ok s.set (b ∷ list) x.core.world last s.free (reached k x led.there) s.closed s.inside s.enabled legal ended in
+      let r = to_front m limits ok s.set (b ∷ list) x.core.world last s.free
+      (reached k x led.there) s.closed s.inside s.enabled legal ended in
       let t : Front m s.set r.0 x.core.world (printed m (b ∷ list) x.core.world) = r.2 in
       let many = r.1 in
       subst (λ ns. IsMet (before ++ ns)) (t.prints ∙ prints)
@@ -170,7 +178,8 @@ module _ (like : Alikeness) (start : CoreValue) (all : List FoundValue) (links :
   all_met : (n : ℕ) → Knows n
   all_met zero k x before rest j most led g = by g.list g.long g.legal g.prints
     where
-      by : (list : List ℕ) → length list ≡ j → run m list x.core.world ≡ Through g.last → printed m list x.core.world ≡ rest → IsMet (before ++ rest)
+      by : (list : List ℕ) → length list ≡ j → run m list x.core.world ≡ Through g.last → printed m list x.core.world ≡ rest
+          → IsMet (before ++ rest)
       by [] long legal prints = at_end k x before rest g.last led legal g.ended prints
       by (b ∷ list) long legal prints = absurd (omega (arith, long, most))
   all_met (suc n) k x before rest j most led g = by (all_met n) g.list g.long g.legal g.prints

@@ -20,7 +20,8 @@ use Rattle.xk_ranks.proofs.RankLaw.{one_turned}
 use Rattle.xk_readings.specs.declared.edge.Edge.{Edge}
 use Rattle.xk_readings.specs.Graphs.{IsWithin, graph}
 use Rattle.xk_readings.specs.Readings.{IsLongest, Reads}
-use Rattle.xk_outcomes.specs.Found.{FoundValue, act_of, first_found, least_private, next, next_by_rank, one_more, settled, through, with_outcome, with_step}
+use Rattle.xk_outcomes.specs.Found.{FoundValue, act_of, first_found, least_private, next, next_by_rank, one_more, settled, through}
+use Rattle.xk_outcomes.specs.Found.{with_outcome, with_step}
 use Rattle.xk_outcomes.specs.Links.{AreLinked, LeadTo, Leads, ends}
 use Rattle.xk_outcomes.specs.Search.{IsFound}
 use Rattle.xk_outcomes.proofs.AlikeLemmas.{enabled_alike, ends_alike, next_goes_alike, one_of_rank, turned}
@@ -60,7 +61,8 @@ read_on links over zero i k acts rest before more led reads =
     let none : i ≡ zero + i = omega arith in
     subst (λ j. Reads (graph links over) j 0 (acts ++ rest) (before ++ more)) none
     (subst (λ ns. Reads (graph links over) i 0 (acts ++ rest) (ns ++ more)) (sym led.2)
-    (subst (λ bs. Reads (graph links over) i 0 (bs ++ rest) more) (sym led.1) (subst (λ j. Reads (graph links over) i j rest more) led.0 reads)))
+    (subst (λ bs. Reads (graph links over) i 0 (bs ++ rest) more) (sym led.1)
+    (subst (λ j. Reads (graph links over) i j rest more) led.0 reads)))
 read_on links over (suc n) i k acts rest before more led reads =
     let l = led.0 in
     let one : Reads (graph links over) (suc i) l.from (l.act ∷ rest) (option_to_list l.printed ++ more) =
@@ -142,7 +144,8 @@ followed m limits ok live liveness all links linked runs (suc n) k acts numbers 
     subst (λ (z : FoundValue). is_enabled m z.core.world (act_of z.core.world e.act) ≡ true) source l.enabled in
     let one : HaveOneRank y.core.world (act_of y.core.world e.act) x.core.world (act_of x.core.world e.act) =
     one_turned x.core.world y.core.world (act_of x.core.world e.act) (act_of y.core.world e.act)
-    (one_of_rank m limits ok live liveness x.core.world y.core.world e.act (turned m limits ok live liveness y.core.world x.core.world same) there_enabled) in
+    (one_of_rank m limits ok live liveness x.core.world y.core.world e.act
+    (turned m limits ok live liveness y.core.world x.core.world same) there_enabled) in
     let enabled : is_enabled m y.core.world (act_of y.core.world e.act) ≡ true =
     enabled_alike m limits ok live liveness y.core.world x.core.world (act_of y.core.world e.act) (act_of x.core.world e.act) same one
     ∙ there_enabled in
@@ -155,7 +158,8 @@ followed m limits ok live liveness all links linked runs (suc n) k acts numbers 
     ∙ prints_next) in
     let on : AreReachedAlike m live (next_by_rank e.act y).core.world l.target.core.world =
     record { first = g.alike.first; second = (runs e.to l.target l.into).1; alike = g.alike.alike ∙ alike_next } in
-    let f = followed m limits ok live liveness all links linked runs n e.to reads.3 reads.4 l.target (next_by_rank e.act y) reads.5 l.into g.first_module on in
+    let f = followed m limits ok live liveness all links linked runs n e.to reads.3 reads.4 l.target
+    (next_by_rank e.act y) reads.5 l.into g.first_module on in
     let counted = steps_next m y (act_of y.core.world e.act) is enabled in
     let long = f.long in
     subst (λ bs. Follows (suc n) y (through bs y) numbers) (sym reads.6) (record {
@@ -170,22 +174,23 @@ followed m limits ok live liveness all links linked runs (suc n) k acts numbers 
 module _ (start : CoreValue) (live : SlotTable) (liveness : IsLiveness start.module_run live) (all : List FoundValue) (links : List Edge)
     (linked : AreLinked live start.module_run all links)
     (found : (k : ℕ) (x : FoundValue) → slice_get all k ≡ Some x
-    → IsFound start x) (first : slice_get all 0 ≡ Some (first_found start)) (limits : IsWithinLimits start.module_run) (ok : IsAccepted start.module_run)
+    → IsFound start x) (first : slice_get all 0 ≡ Some (first_found start)) (limits : IsWithinLimits start.module_run)
+    (ok : IsAccepted start.module_run)
     (taken : AreArguments start.module_run start.world.arguments)
     (begins : start.world ≡ opening start.module_run start.world.arguments) where
-  reached : (x : FoundValue) → IsFound start x → IsReached start.module_run x.core.world
-  reached x f = found_reached start limits ok taken begins x f
-
   pub read_follows : (n : ℕ) (acts : List ℕ) (numbers : List ℤ) → Reads (graph links (ends all)) n 0 acts numbers
       → Follows n (first_found start) (through acts (first_found start)) numbers
   read_follows n acts numbers reads =
-      followed start.module_run limits ok live liveness all links linked (λ k x there. ((found k x there).1.module_is, reached x (found k x there)))
+      followed start.module_run limits ok live liveness all links linked
+      (λ k x there. ((found k x there).1.module_is, found_reached start limits ok taken begins x (found k x there)))
       n 0 acts numbers (first_found start) (first_found start) reads first (first_is_found start).1.module_is
-      (let here = reached (first_found start) (first_is_found start) in record { first = here; second = here; alike = refl })
+      (let here = found_reached start limits ok taken begins (first_found start) (first_is_found start) in
+      record { first = here; second = here; alike = refl })
 
   pub longest_read : IsLongest (graph links (ends all)) (steps_bound start.module_run)
   longest_read n acts numbers reads =
       let f = read_follows n acts numbers reads in
       let long = f.long in
-      let within = steps_within start limits ok taken begins (through acts (first_found start)) (found_through start acts (first_found start) (first_is_found start)) in
+      let within = steps_within start limits ok taken begins (through acts (first_found start))
+      (found_through start acts (first_found start) (first_is_found start)) in
       omega (arith, long, within)

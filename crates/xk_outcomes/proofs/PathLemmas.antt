@@ -58,7 +58,8 @@ all_read all links found list whole listed n acts numbers reads =
 pub played : (start : CoreValue) (live : SlotTable) → IsLiveness start.module_run live → (all : List FoundValue) (links : List Edge)
     → AreLinked live start.module_run all links → AreFound start all
     → slice_get all 0 ≡ Some (first_found start) → IsWithinLimits start.module_run → IsAccepted start.module_run
-    → AreArguments start.module_run start.world.arguments → start.world ≡ opening start.module_run start.world.arguments → ArePlayed start all links
+    → AreArguments start.module_run start.world.arguments → start.world ≡ opening start.module_run start.world.arguments
+    → ArePlayed start all links
 played start live liveness all links linked found first limits ok taken begins n acts numbers reads =
     let f = read_follows start live liveness all links linked found first limits ok taken begins n acts numbers reads in
     record {
@@ -70,7 +71,8 @@ played start live liveness all links linked found first limits ok taken begins n
 
 pub met_printed : (all : List FoundValue) (links : List Edge) (list : List Outcome) → AreRead all links list
     → AreMet order.Printed all links list
-met_printed all links list read k x numbers there ended same led = read (led.0 + 0) (led.1 ++ []) numbers (read_to all links k x numbers there ended led)
+met_printed all links list read k x numbers there ended same led =
+    read (led.0 + 0) (led.1 ++ []) numbers (read_to all links k x numbers there ended led)
 
 pub met_rising : (all : List FoundValue) (links : List Edge) (list : List Outcome) → AreNoted order.Rising all (length all) list
     → AreMet order.Rising all links list

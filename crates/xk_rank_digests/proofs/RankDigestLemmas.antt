@@ -1,5 +1,6 @@
 -- The digest of what is left, activity by activity; and worlds that are alike by rank have it in common.
-use Rattle.std.proofs.Common.{◌≡◌, ℕ, ℤ, ◌+◌, ◌<◌, not, Bool, true, false, true≢false, cond, List, [], ◌∷◌, map, length, Option, refl, sym, ap, ◌∙◌}
+use Rattle.std.proofs.Common.{◌≡◌, ℕ, ℤ, ◌+◌, ◌<◌, not, Bool, true, false, true≢false, cond, List, [], ◌∷◌, map, length, Option, refl}
+use Rattle.std.proofs.Common.{sym, ap, ◌∙◌}
 use Rattle.std.specs.Prelude.{fold, take}
 use Rattle.std.specs.Option.{option_map_or}
 use Rattle.std.proofs.lemmas.List.Sums.{fold_more}
@@ -39,7 +40,8 @@ rank_digests live w v numbers same = alike_digests live (remains w) (remains v) 
 
 -- ---- one activity more
 
-module _ (live : SlotTable) (first : ℕ) (w : World) (a digest new : ℕ) (inside : a < length w.activities) (b : Bool) (is : b ≡ is_living w a)
+module _ (live : SlotTable) (first : ℕ) (w : World) (a digest new : ℕ) (inside : a < length w.activities) (b : Bool)
+    (is : b ≡ is_living w a)
     (before : digest ≡ fold (with_going live) first (take a w.activities)) where
   going_next : with_going live digest (act_at w.activities a) ≡ fold (with_going live) first (take (a + 1) w.activities)
   going_next = ap (λ d. with_going live d (act_at w.activities a)) before
@@ -52,7 +54,8 @@ module _ (live : SlotTable) (first : ℕ) (w : World) (a digest new : ℕ) (insi
   pub more_living : b ≡ true → new ≡ with_activity digest (live_activity live (act_at w.activities a))
       → new ≡ fold (with_going live) first (take (a + 1) w.activities)
   more_living living same = same
-      ∙ ap (λ p. cond p digest (with_activity digest (live_activity live (act_at w.activities a)))) (sym (by (is_ended (act_at w.activities a).status) (sym living_is ∙ living)))
+      ∙ ap (λ p. cond p digest (with_activity digest (live_activity live (act_at w.activities a))))
+      (sym (by (is_ended (act_at w.activities a).status) (sym living_is ∙ living)))
       ∙ going_next
     where
       by : (p : Bool) → not p ≡ true → p ≡ false
@@ -61,7 +64,8 @@ module _ (live : SlotTable) (first : ℕ) (w : World) (a digest new : ℕ) (insi
 
   pub more_ended : b ≡ false → new ≡ digest → new ≡ fold (with_going live) first (take (a + 1) w.activities)
   more_ended over same = same
-      ∙ ap (λ p. cond p digest (with_activity digest (live_activity live (act_at w.activities a)))) (sym (by (is_ended (act_at w.activities a).status) (sym living_is ∙ over)))
+      ∙ ap (λ p. cond p digest (with_activity digest (live_activity live (act_at w.activities a))))
+      (sym (by (is_ended (act_at w.activities a).status) (sym living_is ∙ over)))
       ∙ going_next
     where
       by : (p : Bool) → not p ≡ false → p ≡ true

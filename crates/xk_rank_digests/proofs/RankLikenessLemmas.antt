@@ -1,5 +1,7 @@
 -- What is left of two worlds is alike if its parts are, rank by rank.
-use Rattle.std.proofs.Common.{◌≡◌, ℕ, zero, suc, ◌+◌, ◌<◌, ◌≤◌, not, Bool, true, false, true≢false, ◌⊎◌, inl, inr, List, [], ◌∷◌, map, length, Option, Some, None, option_map, get_or, ext_get_or, refl, sym, ap, ◌∙◌, subst, arith, slice_get, Decides}
+use Rattle.std.proofs.Common.{◌≡◌, ℕ, zero, suc, ◌+◌, ◌<◌, ◌≤◌, not, Bool, true, false, true≢false, ◌⊎◌, inl, inr, List, [], ◌∷◌, map}
+use Rattle.std.proofs.Common.{length, Option, Some, None, option_map, get_or, ext_get_or, refl, sym, ap, ◌∙◌, subst, arith, slice_get}
+use Rattle.std.proofs.Common.{Decides}
 use Rattle.std.specs.Prelude.{option_and_then}
 use Rattle.std.proofs.lemmas.List.{length-map}
 use Rattle.std.proofs.lemmas.List.Sums.{sum_by-cons}
@@ -28,7 +30,8 @@ use Rattle.xk_ranks.proofs.RankWorldLemmas.{act-kept, standing-kept, one_there}
 use Rattle.xk_ranks.proofs.RankStepLaw.{IsFit, marked_alive}
 use Rattle.xk_ranks.proofs.RankLaw.{reached_fit, marked_act, alive_marked, live_by_rank}
 use Rattle.xk_rank_digests.specs.Numbers.{IsOfRank}
-use Rattle.xk_rank_digests.specs.RankLikeness.{IsInnermost, IsLeftAlike, AreSameByRank, AreSameAtRank, AreActsAlike, HaveSameNumbers, AreToldAlike}
+use Rattle.xk_rank_digests.specs.RankLikeness.{IsInnermost, IsLeftAlike, AreSameByRank, AreSameAtRank, AreActsAlike, HaveSameNumbers}
+use Rattle.xk_rank_digests.specs.RankLikeness.{AreToldAlike}
 use Rattle.xk_rank_digests.proofs.RootLemmas.{reached_rooted}
 
 -- what holds of each below a number, and of it, holds of each below the next
@@ -172,7 +175,8 @@ module _ (m : ModuleValue) (live : SlotTable) (w v : World) (one : IsCore m w) (
           let theirs : IsMarked (going v.activities) p = fit_v.owners b y at_y there.marked p f in
           let less : o < a = fit.owned a x at_x o e in
           let within : a < length w.activities = marked_there w a r here in
-          let long : length (going w.activities) ≡ length w.activities = length-map w.activities (λ (z : Activity). not (is_ended z.status)) in
+          let long : length (going w.activities) ≡ length w.activities =
+          length-map w.activities (λ (z : Activity). not (is_ended z.status)) in
           let below : rank (going w.activities) o < rank (going w.activities) a =
           rank_less (going w.activities) o a mine less (omega (arith, within, long)) in
           let is : rank (going w.activities) a ≡ r = here.ranks in
@@ -258,7 +262,8 @@ module _ (m : ModuleValue) (live : SlotTable) (w v : World) (one : IsCore m w) (
         (let a = of_each_rank w n (omega (arith, most)) in
         let b = of_each_rank v n (omega (arith, most, many)) in
         subst (IsSameAt live w v) (sym same)
-        (same_at m live w v one two n a.0 b.0 a.1 b.1 (same_below each n (omega (arith, most))) (each n (omega (arith, most)) a.0 b.0 a.1 b.1)))
+        (same_at m live w v one two n a.0 b.0 a.1 b.1 (same_below each n (omega (arith, most)))
+        (each n (omega (arith, most)) a.0 b.0 a.1 b.1)))
     | inr differs ↦ same_below each n (omega (arith, most)) k (omega (arith, less, differs))
   ]
 
@@ -307,7 +312,8 @@ standing_left : (w : World) (k a r : ℕ) (s : Standing) → IsOfRank (going w.a
     → option_map (λ (c : Clock). standing_of c a) (slice_get w.clocks k) ≡ Some s
     → option_map (λ (c : Clock). standing_of c r) (slice_get (remains w).clocks k) ≡ Some s
 standing_left w k a r s of h =
-    ap (option_map (λ (c : Clock). standing_of c r)) (slice_get-map (clock_kept (going w.activities)) w.clocks k) ∙ by (slice_get w.clocks k) ∙ h
+    ap (option_map (λ (c : Clock). standing_of c r)) (slice_get-map (clock_kept (going w.activities)) w.clocks k)
+    ∙ by (slice_get w.clocks k) ∙ h
   where
     by : (o : Option Clock) → option_map (λ (c : Clock). standing_of c r) (option_map (clock_kept (going w.activities)) o)
         ≡ option_map (λ (c : Clock). standing_of c a) o

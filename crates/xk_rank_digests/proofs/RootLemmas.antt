@@ -1,5 +1,6 @@
 -- A finish that nobody owns has no depth: it is the one that governs main.
-use Rattle.std.proofs.Common.{◌≡◌, ℕ, ℤ, zero, suc, ◌==◌, Bool, true, false, cond, List, [], ◌∷◌, Some, None, refl, sym, ap, subst, slice_get, set}
+use Rattle.std.proofs.Common.{◌≡◌, ℕ, ℤ, zero, suc, ◌==◌, Bool, true, false, cond, List, [], ◌∷◌, Some, None, refl, sym, ap, subst}
+use Rattle.std.proofs.Common.{slice_get, set}
 use Rattle.std.proofs.lemmas.Option.{none-some, same_Some}
 use Rattle.xk_types.specs.Code.{ModuleValue}
 use Rattle.xk_types.specs.World.{Finish, Activity, World, opening}
@@ -40,7 +41,8 @@ step_rooted m w a each = step_kind Roots m w a tt (λ c. tt) (λ act found alive
   done = λ next change e on quiet rests. rooted_set w.activities a act next found on.governed each;
   made = λ next on. rooted_set w.activities a act next found on.governed each;
   stored = λ s n e on quiet. rooted_set w.activities a act (onward act) found on.governed each;
-  spawned = λ t args values at on. each_push (λ b (x : Activity). IsRooted x.governed) (set w.activities a (onward act)) (child m a act t values)
+  spawned = λ t args values at on. each_push (λ b (x : Activity). IsRooted x.governed) (set w.activities a (onward act))
+      (child m a act t values)
       (rooted_set w.activities a act (onward act) found refl each) (rooted_child a act (each a act found));
 })
 

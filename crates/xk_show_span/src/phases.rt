@@ -65,17 +65,6 @@ fn push_if_awaited(list: &mut Vec<Arrival>, c: u32, a: &Arrival) -> Result<(), A
     Ok(())
 }
 
-/// Those for whom the advance of clock c waited.
-fn awaited(alloc: Global, c: u32, all: &[Arrival]) -> Result<Vec<Arrival>, AllocError>
-    ensures { IfOk result (λ v. v.items ≡ flat_map (if_awaited c) all.now) }
-{
-    let mut list = Vec::new(alloc);
-    for arrival in all {
-        push_if_awaited(&mut list, c, arrival)?;
-    }
-    Ok(list)
-}
-
 /// Adds one who left: the next advance waits for that.
 fn push_staying(list: &mut Vec<Arrival>, a: &Arrival) -> Result<(), AllocError>
     ensures { OnOk result (list.new.items ≡ list.old.items ++ staying a.now) }
@@ -178,7 +167,11 @@ impl Coming {
     pub fn awaited(&self, alloc: Global, c: u32) -> Result<Vec<Arrival>, AllocError>
         ensures { IfOk result (λ v. v.items ≡ flat_map (if_awaited c) self.now.arrivals) }
     {
-        awaited(alloc, c, &self.arrivals)
+        let mut list = Vec::new(alloc);
+        for arrival in &self.arrivals {
+            push_if_awaited(&mut list, c, arrival)?;
+        }
+        Ok(list)
     }
 
     /// The line of an advance of clock c, if it is shown.

@@ -12,8 +12,8 @@ loop-a-preserved c =
     let first = with_numbers (with_numbers 0 c.args.printed.now) w.cells in
     let inside : c.loop-a.a < length w.activities = omega (arith, c.loop-a-test.true, c.activities-a-end.ensures.count) in
     elim c.if-is_living.branch [
-      | then-is_living b ↦ more_living live first w c.loop-a.a c.loop-a.digest c.if-is_living.digest inside c.is_living.result c.is_living.ensures
-          c.loop-a.invariant b.if-is_living.true (b.digest-is ∙ b.with_activity-digest.ensures)
-      | else-is_living b ↦ more_ended live first w c.loop-a.a c.loop-a.digest c.if-is_living.digest inside c.is_living.result c.is_living.ensures
-          c.loop-a.invariant b.if-is_living.false b.digest-is
+      | then-is_living b ↦ more_living live first w c.loop-a.a c.loop-a.digest c.if-is_living.digest inside c.is_living.result
+          c.is_living.ensures c.loop-a.invariant b.if-is_living.true (b.digest-is ∙ b.with_activity-digest.ensures)
+      | else-is_living b ↦ more_ended live first w c.loop-a.a c.loop-a.digest c.if-is_living.digest inside c.is_living.result
+          c.is_living.ensures c.loop-a.invariant b.if-is_living.false b.digest-is
     ]

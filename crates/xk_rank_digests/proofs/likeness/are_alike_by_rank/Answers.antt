@@ -15,7 +15,8 @@ returns c =
     let v = c.args.other.now.world in
     let d : Decides c.in_ok-same.same (IsLeftAlike live w v) =
     subst (λ (z : CoreValue). Decides c.in_ok-same.same (IsLeftAlike live z.world v)) c.in_ok-one.ensures
-    (subst (λ (z : CoreValue). Decides c.in_ok-same.same (IsLeftAlike live c.in_ok-one.one.world z.world)) c.in_ok-two.ensures c.in_ok-same.ensures) in (
+    (subst (λ (z : CoreValue). Decides c.in_ok-same.same
+    (IsLeftAlike live c.in_ok-one.one.world z.world)) c.in_ok-two.ensures c.in_ok-same.ensures) in (
       λ q. inr (d.0 q),
       λ h. elim h [
         | inl a ↦ absurd (false≢true (sym c.if-branch.false ∙ c.in_ok-are_alike.ensures.1 a))
