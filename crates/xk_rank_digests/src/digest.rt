@@ -11,7 +11,6 @@ use xk_types::Act;
 
 /// The digest of what of a core may still count, without the activities that have ended, these numbers being printed by then: worlds that
 /// are alike by rank have it in common.
-#[tactic(auto, using(crate::proofs::RankDigestLemmas::stepwise))]
 pub fn rank_digest_of(live: &LiveSlots<'_>, core: &Core<'_>, printed: &[i64]) -> u64
     ensures { result ≡ rank_digest (live_of live.now) core.now.world printed.now }
 {

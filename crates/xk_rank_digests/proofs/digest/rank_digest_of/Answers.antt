@@ -1,7 +1,10 @@
-use Rattle.std.proofs.Common.{◌<◌, length, ◌∙◌, arith}
+use Rattle.std.proofs.Common.{ap, ◌<◌, length, ◌∙◌, arith}
+use Rattle.std.specs.Prelude.{fold}
+use Rattle.std.proofs.lemmas.List.{take_all}
 use Rattle.xk_live_slots.specs.LiveSlots.{live_of}
 use Rattle.xk_digests.specs.Digest.{with_numbers}
-use Rattle.xk_rank_digests.proofs.RankDigestLemmas.{more_living, more_ended}
+use Rattle.xk_rank_digests.specs.RankDigest.{with_going}
+use Rattle.xk_rank_digests.proofs.RankDigestLemmas.{more_living, more_ended, stepwise}
 use Rattle.xk_rank_digests.proofs.digest.rank_digest_of.Goals as goal
 use Rattle.xk_rank_digests.proofs.digest.rank_digest_of.Goals.{then-is_living, else-is_living}
 
@@ -17,3 +20,12 @@ loop-a-preserved c =
       | else-is_living b ↦ more_ended live first w c.loop-a.a c.loop-a.digest c.if-is_living.digest inside c.is_living.result
           c.is_living.ensures c.loop-a.invariant b.if-is_living.false b.digest-is
     ]
+
+pub returns : goal.returns
+returns c =
+    let live = live_of c.args.live.now in
+    let w = c.args.core.now.world in
+    let first = with_numbers (with_numbers 0 c.args.printed.now) w.cells in
+    c.loop-a.invariant
+    ∙ ap (fold (with_going live) first) (take_all c.loop-a.a w.activities (omega (arith, c.loop-a-test.false, c.activities-a-end.ensures.count)))
+    ∙ stepwise live w c.args.printed.now

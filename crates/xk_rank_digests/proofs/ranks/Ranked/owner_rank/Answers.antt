@@ -25,12 +25,13 @@ returns-in-Some c =
     let less = owner_inside d.module_run d.world c.args.act c.in-Some.owner c.activities-activities.ensures.core inside own in
     let many = going_length d.world.activities in
     let long = c.self.invariant.ranks_are.many in
-    let is = c.self.invariant.ranks_are.each c.in-Some.owner c.index.result.now
-    (slice_get-get_or c.self.inside.ranks.items c.in-Some.owner c.index.result.now (omega (arith, less, many, long))
+    let place : c.owner.inside.0 ≡ c.in-Some.owner = c.owner.view_is in
+    let is = c.self.invariant.ranks_are.each c.owner.inside.0 c.index.result.now
+    (slice_get-get_or c.self.inside.ranks.items c.owner.inside.0 c.index.result.now (omega (arith, less, place, many, long))
     ∙ ap Some (sym c.index.ensures)) in
     subst (λ (v : CoreValue). Some c.index.result.now
     ≡ option_map (rank (going v.world.activities)) (act_at v.world.activities c.args.act).governed.owner) c.self.view_is
-    (ap Some (sym is) ∙ ap (option_map (rank (going d.world.activities))) (sym own))
+    (ap Some (sym is ∙ ap (rank (going d.world.activities)) place) ∙ ap (option_map (rank (going d.world.activities))) (sym own))
 
 pub returns-in-None : goal.returns-in-None
 returns-in-None c =
