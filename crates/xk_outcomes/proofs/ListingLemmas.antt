@@ -9,7 +9,9 @@ use Rattle.xk_types.specs.World.{opening}
 use Rattle.xk_types.specs.Schedule.{run, all_ended, printed}
 use Rattle.xk_types.specs.Logs.{schedule_of}
 use Rattle.xk_law_schedules.proofs.ReachabilityLemmas.{same_through}
-use Rattle.xk_liveness.specs.Liveness.{AreAlikeWhereLive, IsLiveness, SlotTable, live_part}
+use Rattle.xk_liveness.specs.Liveness.{IsLiveness, SlotTable}
+use Rattle.xk_rank_digests.specs.RankLikeness.{AreToldAlike}
+use Rattle.xk_rank_digests.proofs.RankLikenessLemmas.{told_turned}
 use Rattle.xk_core.specs.Core.{CoreValue, opening_core}
 use Rattle.xk_readings.specs.declared.edge.Edge.{Edge}
 use Rattle.xk_outcomes.specs.Found.{FoundValue}
@@ -165,11 +167,12 @@ all_apart order like told m args all found rest different = record {
       let y = scheduled (opening_core m args) all found j q hj in
       let to_w : w ≡ x.0.core.world = same_through w x.0.core.world (sym lead_w ∙ x.2.legal) in
       let to_v : v ≡ y.0.core.world = same_through v y.0.core.world (sym lead_v ∙ y.2.legal) in
-      let worlds : AreAlikeWhereLive (live_by like) y.0.core.world x.0.core.world =
-      ap (live_part (live_by like)) (sym to_v) ∙ sym alike ∙ ap (live_part (live_by like)) to_w in
+      let worlds : AreToldAlike (live_by like) y.0.core.world x.0.core.world =
+      told_turned (live_by like) x.0.core.world y.0.core.world
+      (subst (AreToldAlike (live_by like) x.0.core.world) to_v (subst (λ z. AreToldAlike (live_by like) z v) to_w alike)) in
       let numbers : key order x.0.printed ≡ key order y.0.printed =
       ap (key order) (sym x.2.prints) ∙ same ∙ ap (key order) y.2.prints in
-      different i j x.0 y.0 x.1 y.1 (inl worlds, subst (λ o. key o x.0.printed ≡ key o y.0.printed) (sym told) numbers);
+      different i j x.0 y.0 x.1 y.1 (worlds, subst (λ o. key o x.0.printed ≡ key o y.0.printed) (sym told) numbers);
 }
 
 -- where whatever stands along links is listed, what the ones print is in which all have ended
