@@ -7,6 +7,7 @@ out. The names of `MODELS` have the sizes.
 
 from __future__ import annotations
 
+import itertools
 from collections.abc import Iterable, Iterator
 from dataclasses import dataclass, field
 
@@ -112,12 +113,14 @@ def x10_act(act: Act) -> str:
 
 
 def x10(model: Model) -> str:
-    """The model as a source text."""
+    """The model as a source text: neighbours that do the same are started in a loop."""
     lines = [f"shared {name} = {number};" for name, number in model.shared.items()]
     lines += ["def main() {", "finish {", *(f"val k{c} = Clock.make();" for c in range(model.clocks))]
-    for activity in model.activities:
+    for activity, same in itertools.groupby(model.activities):
+        many = len(list(same))
+        turns = f"for (turn in 1..{many}) " if many > 1 else ""
         on = "" if activity.clock is None else f" clocked(k{activity.clock})"
-        lines += [f"async{on} {{", *(f"var {name} = 0;" for name in locals_of(activity.acts))]
+        lines += [f"{turns}async{on} {{", *(f"var {name} = 0;" for name in locals_of(activity.acts))]
         lines += [*map(x10_act, activity.acts), "}"]
     lines += [*(f"k{c}.drop();" for c in range(model.clocks)), "}"]
     lines += [f"val last{name} = {name}; Console.OUT.println(last{name});" for name in model.shown]
