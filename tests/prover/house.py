@@ -34,7 +34,7 @@ MOST = {
     "pub": 80,
     "clauses": 0,
     "code": 224,
-    "proofs": 6710,
+    "proofs": 6703,
     "docs": 80,
     "scripts": 0,
     "files": 0,
