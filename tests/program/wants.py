@@ -109,8 +109,8 @@ def to_lanes(steps: int) -> int:
 
 
 def to_search(found: modules.Accepted, worlds: int, steps: int) -> int:
-    """What is known of worlds and of steps from them, those that are looked at, and those that are kept whole."""
-    return 90 * worlds + 48 * steps + 4 * to_run(found) + 100_000 * to_start(found)
+    """What is known of worlds and of ways of one step from them, those that are looked at, and those that are kept whole."""
+    return 90 * worlds + 118 * steps + 4 * to_run(found) + 100_000 * to_start(found)
 
 
 def to_list(text: str) -> int:

@@ -19,6 +19,7 @@ use Rattle.xk_outcomes.specs.declared.order.Order.TheVariants as order
 use Rattle.xk_outcomes.specs.declared.search.Explored.{Explored}
 use Rattle.xk_outcomes.specs.Explored.{IsExplored}
 use Rattle.xk_outcomes.specs.Found.{FoundValue, first_found, through}
+use Rattle.xk_outcomes.specs.Ways.{steps_of}
 use Rattle.xk_outcomes.specs.Links.{ends}
 use Rattle.xk_outcomes.specs.Listing.{AreAllIn, AreShownIn, ArePlayed}
 use Rattle.xk_outcomes.specs.Outcomes.{IsOutcome}
@@ -146,15 +147,16 @@ place_of [] x h = absurd h
 place_of (z ∷ xs) x (inl same) = (0, z, refl, same)
 place_of (z ∷ xs) x (inr later) = let p = place_of xs x later in (suc p.0, p.1, p.2, p.3)
 
-module _ (m : ModuleValue) (args : List ℤ) (all : List FoundValue) (links : List Edge) (played : ArePlayed (opening_core m args) all links) where
+module _ (m : ModuleValue) (args : List ℤ) (ways : List (List ℕ)) (all : List FoundValue) (links : List Edge)
+    (played : ArePlayed (opening_core m args) ways all links) where
   -- what is read is printed by the steps that lead there
   read_printed : (n : ℕ) (acts : List ℕ) (numbers : List ℤ) → Reads (graph links (ends all)) n 0 acts numbers
       → (schedule : List ℕ) × IsOutcome m args schedule numbers
   read_printed n acts numbers reads =
       let start : CoreValue = opening_core m args in
       let p = played n acts numbers reads in
-      let x : FoundValue = through acts (first_found start) in
-      let f = found_through start acts (first_found start) (first_is_found start) in (
+      let x : FoundValue = through (steps_of ways acts) (first_found start) in
+      let f = found_through start (steps_of ways acts) (first_found start) (first_is_found start) in (
         f.0,
         record {
           last = x.core.world;

@@ -148,8 +148,9 @@ fn count_readings(
     requires begins { slice_get explored.now.found.all 0
         ≡ Some (first_found explored.now.found.start) }
     requires linked { AreLinked (live_by explored.now.found.like)
-        explored.now.found.start.module_run explored.now.found.all explored.now.links.items }
-    ensures played { ArePlayed explored.now.found.start
+        explored.now.found.start.module_run explored.now.found.ways explored.now.found.all
+        explored.now.links.items }
+    ensures played { ArePlayed explored.now.found.start explored.now.found.ways
         explored.now.found.all explored.now.links.items }
     ensures least { IfOk result (λ r. AreReadAtLeast
         (graph explored.now.links.items (ends explored.now.found.all)) r.count) }

@@ -1,6 +1,6 @@
 -- Worlds that are alike by rank: activities of one rank have private steps in both or in neither, and go on alike.
 use Rattle.std.proofs.Common.{◌≡◌, ◌∙◌, ℕ, ℤ, zero, suc, ◌<◌, ◌≤◌, ◌⊎◌, inl, inr, Bool, true, false, true≢false, ◌&&◌, List}
-use Rattle.std.proofs.Common.{[], ◌++◌, length, Option, Some, None, refl, sym, ap, subst, append_assoc, arith}
+use Rattle.std.proofs.Common.{[], ◌∷◌, ◌++◌, length, Option, Some, None, refl, sym, ap, subst, append_assoc, arith}
 use Rattle.std.specs.Option.{option_map_or, option_to_list}
 use Rattle.std.proofs.lemmas.List.{append-nil}
 use Rattle.std.proofs.lemmas.Option.{none-some, same_Some, slice_get_within}
@@ -20,13 +20,14 @@ use Rattle.xk_liveness.specs.Liveness.{IsLiveness, SlotTable}
 use Rattle.xk_closed.specs.Futures.{is_private}
 use Rattle.xk_core.specs.Core.{CoreValue}
 use Rattle.xk_ranks.specs.Ranks.{AreReachedAlike, HaveOneRank, StandAlike, going, rank}
-use Rattle.xk_ranks.proofs.RankLaw.{go_by_rank, one_number, stand_alike as stand_by_rank}
+use Rattle.xk_ranks.proofs.RankLaw.{go_by_rank, one_number, one_turned, stand_alike as stand_by_rank}
 use Rattle.xk_ranks.proofs.RankListLemmas.{IsMarked, rank_less}
 use Rattle.xk_ranks.proofs.RankStepLaw.{marked_alive}
 use Rattle.xk_rank_digests.proofs.NumberLemmas.{going_length, number_here, number_rank}
 use Rattle.xk_outcomes.specs.PrivateSteps.{has_private_step}
 use Rattle.xk_outcomes.specs.Found.{FoundValue, act_of, at_rest, least, least_private, next, next_by_rank, one_more, or_this, settled}
-use Rattle.xk_outcomes.specs.Found.{with_outcome, with_step}
+use Rattle.xk_outcomes.specs.Found.{through, with_outcome, with_step}
+use Rattle.xk_outcomes.specs.Ways.{CanGo}
 use Rattle.xk_outcomes.proofs.FoundLemmas.{least_passes}
 use Rattle.xk_outcomes.proofs.PrivateStepLemmas.{private_enabled}
 use Rattle.xk_outcomes.proofs.RestLemmas.{none_passes}
@@ -71,7 +72,7 @@ module _ (m : ModuleValue) (limits : IsWithinLimits m) (ok : IsAccepted m) (live
   abbrev Alike : World → World → Type 0
   Alike w v = AreReachedAlike m live w v
 
-  pub turned : (w v : World) → Alike w v → Alike v w
+  turned : (w v : World) → Alike w v → Alike v w
   turned w v same = record { first = same.second; second = same.first; alike = sym same.alike }
 
   go_alike : (w v u : World) (a : ℕ) (e : Event) → Alike w v → step m w a ≡ Stepped u e
@@ -92,7 +93,7 @@ module _ (m : ModuleValue) (limits : IsWithinLimits m) (ok : IsAccepted m) (live
   stand_alike w v a b same one = stand_by_rank m limits ok live liveness w v same.first same.second same.alike a b one
 
   -- who has a rank at which a step can be taken there has it here
-  pub one_of_rank : (w v : World) (r : ℕ) → Alike w v → is_enabled m w (act_of w r) ≡ true → HaveOneRank w (act_of w r) v (act_of v r)
+  one_of_rank : (w v : World) (r : ℕ) → Alike w v → is_enabled m w (act_of w r) ≡ true → HaveOneRank w (act_of w r) v (act_of v r)
   one_of_rank w v r same enabled =
       let a : ℕ = act_of w r in
       let u = enabled_step (step m w a) enabled in
@@ -101,7 +102,7 @@ module _ (m : ModuleValue) (limits : IsWithinLimits m) (ok : IsAccepted m) (live
       let is : act_of v r ≡ t.0 = number_here (going v.activities) t.0 r (record { marked = t.2.second; ranks = has }) in
       subst (HaveOneRank w a v) (sym is) t.2
 
-  pub enabled_alike : (w v : World) (a b : ℕ) → Alike w v → HaveOneRank w a v b → is_enabled m w a ≡ is_enabled m v b
+  enabled_alike : (w v : World) (a b : ℕ) → Alike w v → HaveOneRank w a v b → is_enabled m w a ≡ is_enabled m v b
   enabled_alike w v a b same one = (stand_alike w v a b same one).enabled
 
   -- ---- who has a private step
@@ -278,7 +279,7 @@ module _ (m : ModuleValue) (limits : IsWithinLimits m) (ok : IsAccepted m) (live
       ∙ sym my)) (settled_alike x y (steps_bound x.core.module_run) mx my same)
 
   -- a step of the activity of a rank more, if it can take one there, and private steps behind it
-  pub next_goes_alike : (x y : FoundValue) (r : ℕ) → x.core.module_run ≡ m → y.core.module_run ≡ m
+  next_goes_alike : (x y : FoundValue) (r : ℕ) → x.core.module_run ≡ m → y.core.module_run ≡ m
       → Alike x.core.world y.core.world → HaveOneRank x.core.world (act_of x.core.world r) y.core.world (act_of y.core.world r)
       → GoAlike x y (next_by_rank r x) (next_by_rank r y)
   next_goes_alike x y r mx my same one =
@@ -287,3 +288,20 @@ module _ (m : ModuleValue) (limits : IsWithinLimits m) (ok : IsAccepted m) (live
       let g = one_alike x y a b mx my same one in
       joined x y (one_more a x) (one_more b y) (next a x) (next b y) g
       (rest_alike (one_more a x) (one_more b y) g.first_module g.second_module g.alike)
+
+  -- so it is along a way, and who can go it from the one can from the other
+  pub through_alike : (way : List ℕ) (x y : FoundValue) → x.core.module_run ≡ m → y.core.module_run ≡ m
+      → Alike x.core.world y.core.world → CanGo m y way → GoAlike x y (through way x) (through way y) × CanGo m x way
+  through_alike [] x y mx my same goes = (stay x y mx my same, tt)
+  through_alike (r ∷ way) x y mx my same goes =
+      let a : ℕ = act_of x.core.world r in
+      let b : ℕ = act_of y.core.world r in
+      let one : HaveOneRank x.core.world a y.core.world b =
+      one_turned y.core.world x.core.world b a
+      (one_of_rank y.core.world x.core.world r (turned x.core.world y.core.world same) goes.0) in
+      let enabled = enabled_alike x.core.world y.core.world a b same one ∙ goes.0 in
+      let g = next_goes_alike x y r mx my same one in
+      let rest = through_alike way (next_by_rank r x) (next_by_rank r y) g.first_module g.second_module g.alike goes.1 in (
+        joined x y (next_by_rank r x) (next_by_rank r y) (through way (next_by_rank r x)) (through way (next_by_rank r y)) g rest.0,
+        (enabled, rest.1),
+      )

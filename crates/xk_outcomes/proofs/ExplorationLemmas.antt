@@ -3,7 +3,7 @@ use Rattle.std.proofs.Common.{◌≡◌, ◌∙◌, ℕ, ℤ, zero, suc, ◌≤�
 use Rattle.std.proofs.Common.{◌∷◌, ◌++◌, length, None, Some, refl, sym, ap, subst, append_assoc, arith, eq-eqb, eqb-true, slice_get}
 use Rattle.std.specs.Option.{option_to_list}
 use Rattle.std.specs.Prelude.{fold}
-use Rattle.std.proofs.lemmas.List.{append-nil}
+use Rattle.std.proofs.lemmas.List.{append-nil, append_cancel_left}
 use Rattle.std.proofs.lemmas.List.Sums.{fold-append}
 use Rattle.std.proofs.lemmas.Option.{slice_get_within}
 use Rattle.xk_types.specs.declared.world.Event.{Event}
@@ -11,7 +11,7 @@ use Rattle.xk_types.specs.Acceptance.{IsAccepted}
 use Rattle.xk_types.specs.Code.{ModuleValue, IsWithinLimits}
 use Rattle.xk_types.specs.World.{World, opening, AreArguments}
 use Rattle.xk_types.specs.Step.{Stepped, step}
-use Rattle.xk_types.specs.Schedule.{IsReached, Through, run, all_ended, number_printed, printed}
+use Rattle.xk_types.specs.Schedule.{IsReached, Through, run, all_ended, is_step, number_printed, printed}
 use Rattle.xk_law_schedules.proofs.ReachabilityLemmas.{first_step, opening_reached, reached_step, same_through}
 use Rattle.xk_law_commute.proofs.ChangeSquareLemmas.{same_step}
 use Rattle.xk_liveness.specs.Liveness.{IsLiveness, SlotTable}
@@ -24,13 +24,15 @@ use Rattle.xk_rank_digests.proofs.RankLikenessLemmas.{told_by_rank}
 use Rattle.xk_readings.specs.declared.edge.Edge.{Edge}
 use Rattle.xk_outcomes.specs.declared.order.Order.{Order}
 use Rattle.xk_outcomes.specs.declared.order.Order.TheVariants as order
-use Rattle.xk_outcomes.specs.Alikeness.{Alikeness, live_by}
-use Rattle.xk_outcomes.specs.Found.{FoundValue, first_found}
+use Rattle.xk_law_commute.proofs.ExplorationLaw.{nobody_steps}
+use Rattle.xk_outcomes.specs.Alikeness.{Alikeness, AreAsOne, AreOver, live_by}
+use Rattle.xk_outcomes.specs.Found.{FoundValue, first_found, next}
+use Rattle.xk_outcomes.specs.Ways.{IsLone, LeadsAlone}
 use Rattle.xk_outcomes.specs.Links.{LeadTo, Leads}
 use Rattle.xk_outcomes.specs.PrivateSteps.{has_private_step}
 use Rattle.xk_outcomes.specs.Rising.{key, put_in}
 use Rattle.xk_outcomes.specs.Search.{AreAllFound, AreExpanded, AreFound, HasAfter, IsExpanded, LeadsPrivately}
-use Rattle.xk_outcomes.proofs.FoundLemmas.{first_led, first_silent}
+use Rattle.xk_outcomes.proofs.FoundLemmas.{first_led, first_silent, leading}
 use Rattle.xk_outcomes.proofs.PrivateStepLemmas.{private_closed, private_enabled, private_silent}
 use Rattle.xk_outcomes.proofs.RestLemmas.{found_reached}
 
@@ -75,6 +77,82 @@ module _ (m : ModuleValue) (limits : IsWithinLimits m) (ok : IsAccepted m) where
       let one = r.1 in
       record { many = on.many; few = omega (arith, few, one); reached = on.reached; goes = on.goes }
 
+  -- ---- and so do steps to which there is no choice
+
+  -- So many steps at most lead from the one to the end, and this is what is printed by then.
+  record GoesFrom (n : ℕ) (y : FoundValue) (whole : List ℤ) : Type 0 where
+    many : ℕ
+    few : many ≤ n
+    same_module : y.core.module_run ≡ m
+    reached : IsReached m y.core.world
+    left : List ℤ
+    goes : Goes m many y.core.world left
+    told : y.printed ++ left ≡ whole
+
+  -- behind a step, private steps come first
+  step_on : (n : ℕ) (x : FoundValue) (a : ℕ) (u : World) (e : Event) (rest : List ℤ) → x.core.module_run ≡ m → IsReached m x.core.world
+      → step m x.core.world a ≡ Stepped u e → Goes m n u rest
+      → GoesFrom n (next a x) (x.printed ++ (option_to_list (number_printed e) ++ rest))
+  step_on n x a u e rest same here takes g =
+      let l = leading m limits ok x (next a x) a same refl u e takes in
+      let on = past_private l.list n u (next a x).core.world rest (reached_step m x.core.world u a e here takes) l.private g in
+      record {
+        many = on.many;
+        few = on.few;
+        same_module = l.same_module;
+        reached = on.reached;
+        left = rest;
+        goes = on.goes;
+        told = ap (λ ns. ns ++ rest) l.prints ∙ append_assoc x.printed (option_to_list (number_printed e)) rest;
+      }
+
+  lone_first : (n : ℕ) (x : FoundValue) (a : ℕ) (rest : List ℤ) → x.core.module_run ≡ m → IsReached m x.core.world → IsLone m x.core.world a
+      → Goes m n x.core.world rest → GoesFrom n (next a x) (x.printed ++ rest)
+  lone_first n x a rest same here l g =
+      let r = to_front m limits ok l.set g.list x.core.world g.last a here l.closed l.inside l.enabled g.legal g.ended in
+      let t : Front m l.set r.0 x.core.world (printed m g.list x.core.world) = r.2 in
+      let act : t.act ≡ a = l.only t.act t.inside (ap is_step t.takes) in
+      let count : suc r.0 ≡ n = sym r.1 ∙ g.long in
+      let f = step_on r.0 x t.act t.there t.event t.rest same here t.takes t.goes in
+      let is : option_to_list (number_printed t.event) ++ t.rest ≡ rest = t.prints ∙ g.prints in
+      let few = f.few in
+      subst (λ b. GoesFrom n (next b x) (x.printed ++ rest)) act (record {
+        many = f.many;
+        few = omega (arith, count, few);
+        same_module = f.same_module;
+        reached = f.reached;
+        left = f.left;
+        goes = f.goes;
+        told = f.told ∙ ap (λ ns. x.printed ++ ns) is;
+      })
+
+  past_alone : (list : List ℕ) (n : ℕ) (x y : FoundValue) (whole : List ℤ) → LeadsAlone m list x y → GoesFrom n x whole → GoesFrom n y whole
+  past_alone [] n x y whole alone f = subst (λ (z : FoundValue). GoesFrom n z whole) alone f
+  past_alone (a ∷ list) n x y whole alone f =
+      let g = lone_first f.many x a f.left f.same_module f.reached alone.0 f.goes in
+      let few = f.few in
+      let fewer = g.few in
+      past_alone list n (next a x) y whole alone.1 (record {
+        many = g.many;
+        few = omega (arith, few, fewer);
+        same_module = g.same_module;
+        reached = g.reached;
+        left = g.left;
+        goes = g.goes;
+        told = g.told ∙ f.told;
+      })
+
+-- ---- where all have ended
+
+-- nothing more happens in either world
+over_goes : (m : ModuleValue) (n : ℕ) (w v : World) (numbers : List ℤ) → AreOver w v → Goes m n w numbers → Goes m n v numbers
+over_goes m n w v numbers over g = by g.list g.long g.legal g.prints
+  where
+    by : (list : List ℕ) → length list ≡ n → run m list w ≡ Through g.last → printed m list w ≡ numbers → Goes m n v numbers
+    by [] long legal prints = record { list = []; long = long; last = v; legal = refl; ended = over.1; prints = prints }
+    by (b ∷ list) long legal prints =
+        let f = first_step w g.last (step m w b) (run m list) legal in absurd (nobody_steps m w f.0 b f.1 f.2 over.0)
+
 -- ---- all that was found
 
 module _ (like : Alikeness) (start : CoreValue) (all : List FoundValue) (links : List Edge) (limits : IsWithinLimits start.module_run)
@@ -110,41 +188,56 @@ module _ (like : Alikeness) (start : CoreValue) (all : List FoundValue) (links :
   Knows n = (k : ℕ) (x : FoundValue) (before rest : List ℤ) (j : ℕ) → j ≤ n → IsLed k x before → Goes m j x.core.world rest
       → IsMet (before ++ rest)
 
-  -- a step, and private steps behind it, lead to a world that is like one of them, where the rest goes on
+  -- from a world from which the same can happen the rest goes on
+  goes_there : (n : ℕ) (w v : World) (rest : List ℤ) → IsReached m w → IsReached m v → AreAsOne live w v → Goes m n w rest → Goes m n v rest
+  goes_there n w v rest here there (inl told) g =
+      goes_same m (AreReachedAlike m live) (by_rank m limits ok live liveness) n w v rest here
+      (record { first = here; second = there; alike = told_by_rank live w v told }) g
+  goes_there n w v rest here there (inr over) g = over_goes m n w v rest over g
+
+  -- a step, private steps behind it, and steps to which there is no choice lead to where the same can happen as from one of them
   by_step : (n : ℕ) → Knows n → (k : ℕ) (x : FoundValue) (before : List ℤ) → IsLed k x before
       → (a : ℕ) (u : World) (e : Event) (rest : List ℤ) (j : ℕ) → j ≤ n
       → step m x.core.world a ≡ Stepped u e → HasAfter m like all links k x a → Goes m j u rest
       → IsMet (before ++ (option_to_list (number_printed e) ++ rest))
   by_step n knows k x before led a u e rest j most takes after g =
       let more : List ℤ = option_to_list (number_printed e) in
-      let c = after u e takes in
-      let on : GoesOn m limits ok j c.1 rest =
-      past_private m limits ok c.0 j u c.1 rest (reached_step m x.core.world u a e (reached k x led.there) takes) c.2 g in
-      let y = c.4.0 in
-      let l = c.5.1 in
-      let alike : AreReachedAlike m live c.1 y.core.world =
-      record { first = on.reached; second = reached c.3 y c.4.1; alike = told_by_rank live c.1 y.core.world c.4.2.0 } in
-      let goes : Goes m on.many y.core.world rest =
-      goes_same m (AreReachedAlike m live) (by_rank m limits ok live liveness) on.many c.1 y.core.world rest on.reached alike on.goes in
+      let s = after (ap is_step takes) in
+      let y = s.there in
+      let f = step_on m limits ok j x a u e rest (found k x led.there).1.module_is (reached k x led.there) takes g in
+      let on : GoesFrom m limits ok j y (x.printed ++ (more ++ rest)) =
+      past_alone m limits ok s.more j (next a x) y (x.printed ++ (more ++ rest)) s.alone f in
+      let said : List ℤ = option_to_list s.said in
+      let left : said ++ on.left ≡ more ++ rest =
+      append_cancel_left x.printed (said ++ on.left) (more ++ rest)
+      (sym (append_assoc x.printed said on.left) ∙ ap (λ ns. ns ++ on.left) (sym s.prints) ∙ on.told) in
+      let z = s.is.0 in
+      let l = s.link.1 in
+      let goes : Goes m on.many z.core.world on.left =
+      goes_there on.many y.core.world z.core.world on.left on.reached (reached s.to z s.is.1) s.is.2.0 on.goes in
       let few = on.few in
-      let way : LeadTo links c.3 (before ++ more) = (
+      let way : LeadTo links s.to (before ++ said) = (
         suc led.led.0,
         led.led.1 ++ l.act ∷ [],
         (
           l,
-          c.5.0,
-          c.5.2,
-          c.5.5,
+          s.link.0,
+          s.link.2,
+          s.link.5,
           led.led.1,
           before,
-          subst (λ i. Leads links led.led.0 i led.led.1 before) (sym c.5.3) led.led.2,
+          subst (λ i. Leads links led.led.0 i led.led.1 before) (sym s.link.3) led.led.2,
           refl,
-          ap (λ o. before ++ option_to_list o) (sym c.5.4),
+          ap (λ o. before ++ option_to_list o) (sym s.link.4),
         ),
       ) in
-      subst IsMet (append_assoc before more rest)
-      (knows c.3 y (before ++ more) rest on.many (omega (arith, few, most))
-      (record { there = c.4.1; same = c.4.2.1 ∙ key_more like.order x.printed before more led.same; led = way }) goes)
+      subst IsMet (append_assoc before said on.left ∙ ap (λ ns. before ++ ns) left)
+      (knows s.to z (before ++ said) on.left on.many (omega (arith, few, most))
+      (record {
+        there = s.is.1;
+        same = s.is.2.1 ∙ ap (key like.order) s.prints ∙ key_more like.order x.printed before said led.same;
+        led = way;
+      }) goes)
 
   -- where no step is left
   at_end : (k : ℕ) (x : FoundValue) (before rest : List ℤ) (last : World) → IsLed k x before → run m [] x.core.world ≡ Through last

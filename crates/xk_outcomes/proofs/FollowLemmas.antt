@@ -1,6 +1,6 @@
 -- What can be read along links is printed by the steps that they stand for; and no reading is longer than a run.
-use Rattle.std.proofs.Common.{◌≡◌, ◌∙◌, ℕ, ℤ, zero, suc, ◌+◌, ◌≤◌, Bool, true, List, []}
-use Rattle.std.proofs.Common.{◌∷◌, ◌++◌, Option, Some, None, refl, sym, ap, subst, append_assoc, arith, slice_get}
+use Rattle.std.proofs.Common.{◌≡◌, ◌∙◌, ℕ, ℤ, zero, suc, ◌+◌, ◌<◌, ◌≤◌, ◌⊎◌, inl, inr, Bool, true, List, []}
+use Rattle.std.proofs.Common.{◌∷◌, ◌++◌, length, Option, Some, None, refl, sym, ap, subst, append_assoc, arith, slice_get}
 use Rattle.std.specs.Prelude.{option_map}
 use Rattle.std.specs.Option.{option_to_list}
 use Rattle.std.proofs.lemmas.List.{append-nil, append_cancel_left, length-map}
@@ -15,18 +15,21 @@ use Rattle.xk_law_schedules.proofs.StepCountLemmas.{step_counts}
 use Rattle.xk_law_commute.proofs.QuietStepLaw.{enabled_step}
 use Rattle.xk_liveness.specs.Liveness.{IsLiveness, SlotTable}
 use Rattle.xk_core.specs.Core.{CoreValue}
-use Rattle.xk_ranks.specs.Ranks.{AreAlikeByRank, AreReachedAlike, HaveOneRank}
-use Rattle.xk_ranks.proofs.RankLaw.{one_turned}
+use Rattle.xk_ranks.specs.Ranks.{AreReachedAlike}
+use Rattle.xk_law_commute.proofs.ExplorationLaw.{nobody_steps}
+use Rattle.xk_outcomes.specs.Alikeness.{AreAsOneByRank, AreOver}
 use Rattle.xk_readings.specs.declared.edge.Edge.{Edge}
 use Rattle.xk_readings.specs.Graphs.{IsWithin, graph}
 use Rattle.xk_readings.specs.Readings.{IsLongest, Reads}
 use Rattle.xk_outcomes.specs.Found.{FoundValue, act_of, first_found, least_private, next, next_by_rank, one_more, settled, through}
 use Rattle.xk_outcomes.specs.Found.{with_outcome, with_step}
+use Rattle.xk_outcomes.specs.Ways.{CanGo, IsWay, steps_of, way_of}
 use Rattle.xk_outcomes.specs.Links.{AreLinked, LeadTo, Leads, ends}
 use Rattle.xk_outcomes.specs.Search.{IsFound}
-use Rattle.xk_outcomes.proofs.AlikeLemmas.{enabled_alike, ends_alike, next_goes_alike, one_of_rank, turned}
+use Rattle.xk_outcomes.proofs.AlikeLemmas.{ends_alike, through_alike}
 use Rattle.xk_outcomes.proofs.FoundLemmas.{first_is_found, found_through}
 use Rattle.xk_outcomes.proofs.RestLemmas.{found_reached, steps_within}
+use Rattle.xk_outcomes.proofs.TripLemmas.{next_module}
 
 -- ---- ends
 
@@ -44,9 +47,9 @@ told_there all k x there ended =
     slice_get-map over all k ∙ ap (option_map over) there ∙ ap Some ended
 
 -- each link leads from one of them to one of them
-pub links_within : (live : SlotTable) (m : ModuleValue) (all : List FoundValue) (links : List Edge)
-    → AreLinked live m all links → IsWithin (graph links (ends all))
-links_within live m all links linked e there =
+pub links_within : (live : SlotTable) (m : ModuleValue) (ways : List (List ℕ)) (all : List FoundValue) (links : List Edge)
+    → AreLinked live m ways all links → IsWithin (graph links (ends all))
+links_within live m ways all links linked e there =
     let l = linked.each there.0 e there.1 in
     let many = length-map all (λ (y : FoundValue). all_ended y.core.world) in
     let out = slice_get_within all e.from l.source l.out in
@@ -124,64 +127,106 @@ steps_next m x a same enabled =
     let rest = steps_settled (one_more a x) (steps_bound (one_more a x).core.module_run) in
     omega (arith, one, rest)
 
+-- so it is of each step of a way
+steps_through : (m : ModuleValue) (way : List ℕ) (x : FoundValue) → x.core.module_run ≡ m → CanGo m x way
+    → length way + x.core.world.steps ≤ (through way x).core.world.steps
+steps_through m [] x same goes = omega arith
+steps_through m (r ∷ way) x same goes =
+    let a : ℕ = act_of x.core.world r in
+    let one = steps_next m x a same goes.0 in
+    let rest = steps_through m way (next_by_rank r x) (next_module x a ∙ same) goes.1 in
+    omega (arith, one, rest)
+
+-- ways one after another are one way
+through_append : (way more : List ℕ) (x : FoundValue) → through (way ++ more) x ≡ through more (through way x)
+through_append [] more x = refl
+through_append (r ∷ way) more x = through_append way more (next_by_rank r x)
+
+either : {A B C : Type 0} → A ⊎ B → (A → C) → (B → C) → C
+either (inl a) first second = first a
+either (inr b) first second = second b
+
+-- Where all have ended no link leads on: so what is read from there is read already.
+over_followed : (m : ModuleValue) (live : SlotTable) (ways : List (List ℕ)) (all : List FoundValue) (links : List Edge)
+    → AreLinked live m ways all links
+    → (n k : ℕ) (acts : List ℕ) (numbers : List ℤ) (x y : FoundValue) → Reads (graph links (ends all)) n k acts numbers
+    → slice_get all k ≡ Some x → AreOver y.core.world x.core.world → Follows n y (through (steps_of ways acts) y) numbers
+over_followed m live ways all links linked zero k acts numbers x y reads there over =
+    subst (λ bs. Follows zero y (through (steps_of ways bs) y) numbers) (sym reads.1) (record {
+      ended = over.0;
+      prints = sym (append-nil y.printed) ∙ ap (λ ns. y.printed ++ ns) (sym reads.2);
+      long = omega arith;
+    })
+over_followed m live ways all links linked (suc n) k acts numbers x y reads there over =
+    let e = reads.0 in
+    let l = linked.each reads.1.0 e reads.1.1 in
+    let source : l.source ≡ x = same_Some l.source x (sym l.out ∙ (ap (slice_get all) reads.2 ∙ there)) in
+    let is_way : IsWay m x (way_of ways e.act) e.printed = subst (λ (z : FoundValue). IsWay m z (way_of ways e.act) e.printed) source
+    l.is_way in
+    absurd (by (way_of ways e.act) is_way.some is_way.goes)
+  where
+    by : (way : List ℕ) → 0 < length way → CanGo m x way → ⊥
+    by [] some goes = absurd (omega (arith, some))
+    by (r ∷ way) some goes =
+        let taken = enabled_step (step m x.core.world (act_of x.core.world r)) goes.0 in
+        nobody_steps m x.core.world taken.0 (act_of x.core.world r) taken.1 taken.2 over.1
+
 followed : (m : ModuleValue) (limits : IsWithinLimits m) (ok : IsAccepted m) (live : SlotTable) → IsLiveness m live
-    → (all : List FoundValue) (links : List Edge) → AreLinked live m all links
+    → (ways : List (List ℕ)) (all : List FoundValue) (links : List Edge) → AreLinked live m ways all links
     → ((k : ℕ) (x : FoundValue) → slice_get all k ≡ Some x → (x.core.module_run ≡ m) × IsReached m x.core.world)
     → (n k : ℕ) (acts : List ℕ) (numbers : List ℤ) (x y : FoundValue) → Reads (graph links (ends all)) n k acts numbers
     → slice_get all k ≡ Some x
-    → y.core.module_run ≡ m → AreReachedAlike m live y.core.world x.core.world → Follows n y (through acts y) numbers
-followed m limits ok live liveness all links linked runs zero k acts numbers x y reads there is same =
-    subst (λ bs. Follows zero y (through bs y) numbers) (sym reads.1) (record {
+    → y.core.module_run ≡ m → AreReachedAlike m live y.core.world x.core.world → Follows n y (through (steps_of ways acts) y) numbers
+followed m limits ok live liveness ways all links linked runs zero k acts numbers x y reads there is same =
+    subst (λ bs. Follows zero y (through (steps_of ways bs) y) numbers) (sym reads.1) (record {
       ended = ends_alike m limits ok live liveness y.core.world x.core.world same ∙ ended_there all k x there reads.0;
       prints = sym (append-nil y.printed) ∙ ap (λ ns. y.printed ++ ns) (sym reads.2);
       long = omega arith;
     })
-followed m limits ok live liveness all links linked runs (suc n) k acts numbers x y reads there is same =
+followed m limits ok live liveness ways all links linked runs (suc n) k acts numbers x y reads there is same =
     let e = reads.0 in
+    let way : List ℕ = way_of ways e.act in
     let l = linked.each reads.1.0 e reads.1.1 in
     let source : l.source ≡ x = same_Some l.source x (sym l.out ∙ (ap (slice_get all) reads.2 ∙ there)) in
-    let there_enabled : is_enabled m x.core.world (act_of x.core.world e.act) ≡ true =
-    subst (λ (z : FoundValue). is_enabled m z.core.world (act_of z.core.world e.act) ≡ true) source l.enabled in
-    let one : HaveOneRank y.core.world (act_of y.core.world e.act) x.core.world (act_of x.core.world e.act) =
-    one_turned x.core.world y.core.world (act_of x.core.world e.act) (act_of y.core.world e.act)
-    (one_of_rank m limits ok live liveness x.core.world y.core.world e.act
-    (turned m limits ok live liveness y.core.world x.core.world same) there_enabled) in
-    let enabled : is_enabled m y.core.world (act_of y.core.world e.act) ≡ true =
-    enabled_alike m limits ok live liveness y.core.world x.core.world (act_of y.core.world e.act) (act_of x.core.world e.act) same one
-    ∙ there_enabled in
-    let alike_next : AreAlikeByRank live (next_by_rank e.act x).core.world l.target.core.world =
-    subst (λ (z : FoundValue). AreAlikeByRank live (next_by_rank e.act z).core.world l.target.core.world) source l.alike in
-    let prints_next : (next_by_rank e.act x).printed ≡ x.printed ++ option_to_list e.printed =
-    subst (λ (z : FoundValue). (next_by_rank e.act z).printed ≡ z.printed ++ option_to_list e.printed) source l.prints in
-    let g = next_goes_alike m limits ok live liveness y x e.act is (runs k x there).0 same one in
+    let is_way : IsWay m x way e.printed = subst (λ (z : FoundValue). IsWay m z way e.printed) source l.is_way in
+    let next : AreAsOneByRank live (through way x).core.world l.target.core.world =
+    subst (λ (z : FoundValue). AreAsOneByRank live (through way z).core.world l.target.core.world) source l.alike in
+    let t = through_alike m limits ok live liveness way y x is (runs k x there).0 same is_way.goes in
+    let g = t.0 in
     let more : g.more ≡ option_to_list e.printed = append_cancel_left x.printed g.more (option_to_list e.printed) (sym g.second_prints
-    ∙ prints_next) in
-    let on : AreReachedAlike m live (next_by_rank e.act y).core.world l.target.core.world =
-    record { first = g.alike.first; second = (runs e.to l.target l.into).1; alike = g.alike.alike ∙ alike_next } in
-    let f = followed m limits ok live liveness all links linked runs n e.to reads.3 reads.4 l.target
-    (next_by_rank e.act y) reads.5 l.into g.first_module on in
-    let counted = steps_next m y (act_of y.core.world e.act) is enabled in
+    ∙ is_way.prints) in
+    let goal : Type 0 = Follows n (through way y) (through (steps_of ways reads.3) (through way y)) reads.4 in
+    let f = either {C = goal} next
+    (λ alike_next. followed m limits ok live liveness ways all links linked runs n e.to reads.3 reads.4 l.target (through way y) reads.5
+    l.into
+    g.first_module
+    (record { first = g.alike.first; second = (runs e.to l.target l.into).1; alike = g.alike.alike ∙ alike_next }))
+    (λ over. over_followed m live ways all links linked n e.to reads.3 reads.4 l.target (through way y) reads.5 l.into
+    (ends_alike m limits ok live liveness (through way y).core.world (through way x).core.world g.alike ∙ over.0, over.1)) in
+    let counted = steps_through m way y is t.1 in
+    let some = is_way.some in
     let long = f.long in
-    subst (λ bs. Follows (suc n) y (through bs y) numbers) (sym reads.6) (record {
+    subst (λ bs. Follows (suc n) y (through (steps_of ways bs) y) numbers) (sym reads.6)
+    (subst (λ (z : FoundValue). Follows (suc n) y z numbers) (sym (through_append way (steps_of ways reads.3) y)) (record {
       ended = f.ended;
       prints = f.prints ∙ ap (λ ns. ns ++ reads.4) (g.first_prints ∙ ap (λ ns. y.printed ++ ns) more)
           ∙ append_assoc y.printed (option_to_list e.printed) reads.4 ∙ ap (λ ns. y.printed ++ ns) (sym reads.7);
-      long = omega (arith, counted, long);
-    })
+      long = omega (arith, counted, some, long);
+    }))
 
 -- ---- where all that was found was found from a start
 
-module _ (start : CoreValue) (live : SlotTable) (liveness : IsLiveness start.module_run live) (all : List FoundValue) (links : List Edge)
-    (linked : AreLinked live start.module_run all links)
+module _ (start : CoreValue) (live : SlotTable) (liveness : IsLiveness start.module_run live) (ways : List (List ℕ))
+    (all : List FoundValue) (links : List Edge) (linked : AreLinked live start.module_run ways all links)
     (found : (k : ℕ) (x : FoundValue) → slice_get all k ≡ Some x
     → IsFound start x) (first : slice_get all 0 ≡ Some (first_found start)) (limits : IsWithinLimits start.module_run)
     (ok : IsAccepted start.module_run)
     (taken : AreArguments start.module_run start.world.arguments)
     (begins : start.world ≡ opening start.module_run start.world.arguments) where
   pub read_follows : (n : ℕ) (acts : List ℕ) (numbers : List ℤ) → Reads (graph links (ends all)) n 0 acts numbers
-      → Follows n (first_found start) (through acts (first_found start)) numbers
+      → Follows n (first_found start) (through (steps_of ways acts) (first_found start)) numbers
   read_follows n acts numbers reads =
-      followed start.module_run limits ok live liveness all links linked
+      followed start.module_run limits ok live liveness ways all links linked
       (λ k x there. ((found k x there).1.module_is, found_reached start limits ok taken begins x (found k x there)))
       n 0 acts numbers (first_found start) (first_found start) reads first (first_is_found start).1.module_is
       (let here = found_reached start limits ok taken begins (first_found start) (first_is_found start) in
@@ -191,6 +236,6 @@ module _ (start : CoreValue) (live : SlotTable) (liveness : IsLiveness start.mod
   longest_read n acts numbers reads =
       let f = read_follows n acts numbers reads in
       let long = f.long in
-      let within = steps_within start limits ok taken begins (through acts (first_found start))
-      (found_through start acts (first_found start) (first_is_found start)) in
+      let within = steps_within start limits ok taken begins (through (steps_of ways acts) (first_found start))
+      (found_through start (steps_of ways acts) (first_found start) (first_is_found start)) in
       omega (arith, long, within)

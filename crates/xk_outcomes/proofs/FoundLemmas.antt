@@ -1,8 +1,10 @@
 -- One that was found goes on by a step and by private steps.
 use Rattle.std.proofs.Common.{◌≡◌, ◌∙◌, ℕ, ℤ, zero, suc, ◌+◌, ◌<◌, ◌≤◌, ◌⊎◌, inl, inr, Bool, true, false}
-use Rattle.std.proofs.Common.{List, [], ◌∷◌, ◌++◌, length, Option, Some, None, refl, sym, ap, subst, add-one, arith, slice_get}
+use Rattle.std.proofs.Common.{List, [], ◌∷◌, ◌++◌, length, Option, Some, None, refl, sym, ap, subst, append_assoc, add-one, arith}
+use Rattle.std.proofs.Common.{slice_get}
 use Rattle.std.specs.Option.{option_to_list}
-use Rattle.std.proofs.lemmas.List.{append-nil}
+use Rattle.std.specs.Prelude.{reverse}
+use Rattle.std.proofs.lemmas.List.{append-nil, reverse-append}
 use Rattle.std.proofs.lemmas.Option.{none-some, same_Some}
 use Rattle.xk_types.specs.declared.world.Event.{Event}
 use Rattle.xk_types.specs.Acceptance.{IsAccepted}
@@ -17,10 +19,8 @@ use Rattle.xk_law_commute.proofs.QuietStepLaw.{enabled_step}
 use Rattle.xk_core.specs.Core.{CoreValue}
 use Rattle.xk_outcomes.specs.Found.{FoundValue, along, at_rest, first_found, least, least_private}
 use Rattle.xk_outcomes.specs.Found.{act_of, next, next_by_rank, one_more, or_this, settled, through, with_outcome, with_step}
-use Rattle.xk_readings.specs.declared.edge.Edge.{Edge}
-use Rattle.xk_outcomes.specs.Alikeness.{Alikeness}
-use Rattle.xk_outcomes.specs.Links.{HasLink}
-use Rattle.xk_outcomes.specs.Search.{HasAfter, IsFound, IsFoundBy, IsSettled, IsThere, LeadsPrivately}
+use Rattle.xk_outcomes.specs.Ways.{steps_of, way_of}
+use Rattle.xk_outcomes.specs.Search.{IsFound, IsFoundBy, IsSettled, LeadsPrivately}
 use Rattle.xk_outcomes.proofs.PrivateStepLemmas.{private_enabled, private_silent}
 use Rattle.xk_outcomes.proofs.SearchLemmas.{printed_more}
 
@@ -99,7 +99,7 @@ found_settled start x (suc n) f = found_with_step start (settled n x) (least_pri
 pub settled_found : (start : CoreValue) (x : FoundValue) → IsSettled start x → IsFound start x
 settled_found start x s = subst (IsFound start) (sym s.2) (found_settled start s.0 (steps_bound s.0.core.module_run) s.1)
 
-pub settled_next : (start : CoreValue) (x : FoundValue) (a : ℕ) → IsFound start x → IsSettled start (next a x)
+settled_next : (start : CoreValue) (x : FoundValue) (a : ℕ) → IsFound start x → IsSettled start (next a x)
 settled_next start x a f = (one_more a x, found_one_more start x a f, refl)
 
 -- the start is found by no step
@@ -162,19 +162,22 @@ one_behind [] (Some n) = refl
 one_behind (x ∷ xs) o = one_behind xs o
 
 -- where a step leads that can be taken, and what is printed on the way there
-record Leading (m : ModuleValue) (here y : FoundValue) (u : World) (e : Event) : Type 0 where
-  list : List ℕ
-  private : LeadsPrivately m list u y.core.world
-  prints : y.printed ≡ here.printed ++ option_to_list (number_printed e)
+pub record Leading (m : ModuleValue) (here y : FoundValue) (u : World) (e : Event) : Type 0 where
+  pub list : List ℕ
+  pub private : LeadsPrivately m list u y.core.world
+  pub same_module : y.core.module_run ≡ m
+  pub prints : y.printed ≡ here.printed ++ option_to_list (number_printed e)
 
-leading : (m : ModuleValue) → IsWithinLimits m → IsAccepted m → (here y : FoundValue) (a : ℕ) → here.core.module_run ≡ m → y ≡ next a here
+pub leading : (m : ModuleValue) → IsWithinLimits m → IsAccepted m → (here y : FoundValue) (a : ℕ) → here.core.module_run ≡ m
+    → y ≡ next a here
     → (u : World) (e : Event) → step m here.core.world a ≡ Stepped u e → Leading m here y u e
 leading m limits ok here y a same is u e t =
     let x : FoundValue = with_outcome here a (Stepped u e) in
     let taken : one_more a here ≡ x = ap (with_outcome here a) (ap (λ k. step k here.core.world a) same ∙ t) in
     let there : y ≡ at_rest x = is ∙ ap at_rest taken in
     let s = settles m limits ok x same (steps_bound x.core.module_run) in
-    subst (λ (z : FoundValue). Leading m here z u e) (sym there) (record { list = s.list; private = s.private; prints = s.prints })
+    subst (λ (z : FoundValue). Leading m here z u e) (sym there)
+    (record { list = s.list; private = s.private; same_module = s.same_module; prints = s.prints })
 
 -- a step that can be taken prints one number at most, and private steps behind it none
 pub next_prints : (m : ModuleValue) → IsWithinLimits m → IsAccepted m → (here : FoundValue) (a : ℕ) → here.core.module_run ≡ m
@@ -184,23 +187,6 @@ next_prints m limits ok here a same enabled =
     let taken = enabled_step (step m here.core.world a) enabled in
     let l = leading m limits ok here (next a here) a same refl taken.0 taken.1 taken.2 in
     (number_printed taken.1, l.prints)
-
--- they have one where its step and private steps lead, and a link to it
-pub after_next : (m : ModuleValue) → IsWithinLimits m → IsAccepted m
-    → (like : Alikeness) (all : List FoundValue) (links : List Edge) (number to : ℕ) (here y : FoundValue) (a : ℕ)
-    → here.core.module_run ≡ m → y ≡ next a here → IsThere like all y.core.world y.printed to
-    → HasLink links number (slice_get y.printed (length here.printed)) to → HasAfter m like all links number here a
-after_next m limits ok like all links number to here y a same is there link u e t =
-    let l = leading m limits ok here y a same is u e t in
-    let printed : slice_get y.printed (length here.printed) ≡ number_printed e =
-    ap (λ ns. slice_get ns (length here.printed)) l.prints ∙ one_behind here.printed (number_printed e) in (
-      l.list,
-      y.core.world,
-      l.private,
-      to,
-      subst (λ ns. IsThere like all y.core.world ns to) l.prints there,
-      subst (λ o. HasLink links number o to) printed link,
-    )
 
 -- the first one prints nothing, and private steps lead to it
 pub first_silent : (start : CoreValue) → IsWithinLimits start.module_run → IsAccepted start.module_run → (first_found start).printed ≡ []
@@ -215,10 +201,19 @@ first_led start limits ok =
 
 -- ---- along a way
 
--- a step more at its end comes first
-pub along_push : (way : List ℕ) (a : ℕ) (x : FoundValue) → along (way ++ a ∷ []) x ≡ along way (next a x)
-along_push [] a x = refl
-along_push (b ∷ way) a x = ap (next b) (along_push way a x)
+-- steps more at its end come first
+pub along_append : (way more : List ℕ) (x : FoundValue) → along (way ++ more) x ≡ along way (along more x)
+along_append [] more x = refl
+along_append (r ∷ way) more x = ap (next_by_rank r) (along_append way more x)
+
+pub along_push : (way : List ℕ) (r : ℕ) (x : FoundValue) → along (way ++ r ∷ []) x ≡ along way (next_by_rank r x)
+along_push way r x = along_append way (r ∷ []) x
+
+-- a way with its last step first leads where it does
+pub along_reverse : (way : List ℕ) (x : FoundValue) → along (reverse way) x ≡ through way x
+along_reverse [] x = refl
+along_reverse (r ∷ way) x =
+    ap (λ l. along l x) (reverse-append (r ∷ []) way) ∙ along_push (reverse way) r x ∙ along_reverse way (next_by_rank r x)
 
 pub first_is_found : (start : CoreValue) → IsFound start (first_found start)
 first_is_found start = settled_found start (first_found start) (settled_first start)
@@ -227,6 +222,18 @@ first_is_found start = settled_found start (first_found start) (settled_first st
 found_next : (start : CoreValue) (x : FoundValue) (a : ℕ) → IsFound start x → IsFound start (next a x)
 found_next start x a f = settled_found start (next a x) (settled_next start x a f)
 
+-- and it is settled, if it was before any step
+pub settled_through : (start : CoreValue) (ranks : List ℕ) (x : FoundValue) → IsSettled start x → IsSettled start (through ranks x)
+settled_through start [] x s = s
+settled_through start (r ∷ ranks) x s =
+    settled_through start ranks (next_by_rank r x) (settled_next start x (act_of x.core.world r) (settled_found start x s))
+
 pub found_through : (start : CoreValue) (ranks : List ℕ) (x : FoundValue) → IsFound start x → IsFound start (through ranks x)
 found_through start [] x f = f
 found_through start (r ∷ ranks) x f = found_through start ranks (next_by_rank r x) (found_next start x (act_of x.core.world r) f)
+
+-- ways one after another, one way more
+pub steps_more : (ways : List (List ℕ)) (list : List ℕ) (l : ℕ) → steps_of ways (list ++ l ∷ []) ≡ steps_of ways list ++ way_of ways l
+steps_more ways [] l = append-nil (way_of ways l)
+steps_more ways (k ∷ list) l = ap (λ ns. way_of ways k ++ ns) (steps_more ways list l)
+    ∙ sym (append_assoc (way_of ways k) (steps_of ways list) (way_of ways l))

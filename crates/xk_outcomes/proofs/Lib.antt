@@ -2,6 +2,7 @@ mod SearchLemmas
 mod PrivateStepLemmas
 pub mod FoundLemmas
 mod AlikeLemmas
+mod TripLemmas
 mod RestLemmas
 mod CheckpointLemmas
 mod EntriesLemmas

@@ -159,13 +159,13 @@ readings_most found list rising listed =
     omega (arith, most, count)
 
 -- each reading is played
-pub played_all : (start : CoreValue) (all : List FoundValue) (links : List Edge) (found : List Reading) → ArePlayed start all links
-    → AreShown (graph links (ends all)) found → ArePlayedAll start found
-played_all start all links found played shown i r there = (let s = shown i r there in played s.0 r.acts.items r.numbers.items s.1)
+pub played_all : (start : CoreValue) (ways : List (List ℕ)) (all : List FoundValue) (links : List Edge) (found : List Reading)
+    → ArePlayed start ways all links → AreShown (graph links (ends all)) found → ArePlayedAll start ways found
+played_all start ways all links found played shown i r there = (let s = shown i r there in played s.0 r.acts.items r.numbers.items s.1)
 
 -- ---- outcomes
 
-pub numbered : (m : ModuleValue) (args : List ℤ) (all : List FoundValue) (links : List Edge) (limit place : ℕ) (list : List Outcome)
+numbered : (m : ModuleValue) (args : List ℤ) (all : List FoundValue) (links : List Edge) (limit place : ℕ) (list : List Outcome)
     → place ≤ plain_runs → AreInOrder all links place list
     → (length all ≤ limit → AreAllFound order.Printed (opening_core m args) all links) → AreNumbered m args limit list (length all)
 numbered m args all links limit place list few order found = record {
@@ -189,7 +189,7 @@ pub numbered_in : (o : Order) (m : ModuleValue) (args : List ℤ) (all : List Fo
 numbered_in order.Printed m args all links limit place list few order found = numbered m args all links limit place list few order found
 numbered_in order.Rising m args all links limit place list few order found = tt
 
-pub lone_numbered : (m : ModuleValue) (args : List ℤ) (limit : ℕ) (list : List Outcome) (o : Outcome) → list ≡ o ∷ []
+lone_numbered : (m : ModuleValue) (args : List ℤ) (limit : ℕ) (list : List Outcome) (o : Outcome) → list ≡ o ∷ []
     → AreAllIn order.Printed m args list → AreNumbered m args limit list 0
 lone_numbered m args limit list o one all = record {
   place = 0;

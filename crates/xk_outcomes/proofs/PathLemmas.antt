@@ -13,6 +13,7 @@ use Rattle.xk_liveness.specs.Liveness.{IsLiveness, SlotTable}
 use Rattle.xk_outcomes.specs.declared.listing.Outcome.{Outcome}
 use Rattle.xk_outcomes.specs.declared.order.Order.TheVariants as order
 use Rattle.xk_outcomes.specs.Found.{FoundValue, first_found}
+use Rattle.xk_outcomes.specs.Ways.{steps_of}
 use Rattle.xk_outcomes.specs.Links.{AreLinked, ends}
 use Rattle.xk_outcomes.specs.Listing.{AreMet, AreNoted, ArePlayed, AreRead, AreReadingsPut, IsPlayed, KeepsListed}
 use Rattle.xk_outcomes.specs.Outcomes.{IsListed}
@@ -22,11 +23,12 @@ use Rattle.xk_outcomes.proofs.FoundLemmas.{first_silent}
 
 -- ---- from readings to outcomes
 
-pub readings_more : (start : CoreValue) (found : List Reading) (place : ℕ) (here : Reading) (old new : List Outcome)
+pub readings_more : (start : CoreValue) (ways : List (List ℕ)) (found : List Reading) (place : ℕ) (here : Reading) (old new : List Outcome)
     → slice_get found place ≡ Some here → KeepsListed old new
-    → (IsPlayed start here.acts.items here.numbers.items → IsListed new here.numbers.items) → AreReadingsPut start found place old
-    → AreReadingsPut start found (place + 1) new
-readings_more start found place here old new there kept listed before i r less at played = by (split i place less)
+    → (IsPlayed start (steps_of ways here.acts.items) here.numbers.items → IsListed new here.numbers.items)
+    → AreReadingsPut start ways found place old
+    → AreReadingsPut start ways found (place + 1) new
+readings_more start ways found place here old new there kept listed before i r less at played = by (split i place less)
   where
     split : (i n : ℕ) → i < n + 1 → (i < n) ⊎ (i ≡ n)
     split i n h = grind arith
@@ -35,15 +37,16 @@ readings_more start found place here old new there kept listed before i r less a
     by (inl l) = kept r.numbers.items (before i r l at played)
     by (inr e) =
         let same : here ≡ r = same_Some here r (sym there ∙ (sym (ap (slice_get found) e) ∙ at)) in
-        subst (λ (q : Reading). IsPlayed start q.acts.items q.numbers.items → IsListed new q.numbers.items) same listed played
+        subst (λ (q : Reading). IsPlayed start (steps_of ways q.acts.items) q.numbers.items → IsListed new q.numbers.items) same listed
+        played
 
 -- each reading is played, and so listed
-pub readings_listed : (start : CoreValue) (all : List FoundValue) (links : List Edge) (found : List Reading) (list : List Outcome)
-    → ArePlayed start all links
-    → AreShown (graph links (ends all)) found → AreReadingsPut start found (length found) list → (i : ℕ) (r : Reading)
+pub readings_listed : (start : CoreValue) (ways : List (List ℕ)) (all : List FoundValue) (links : List Edge) (found : List Reading)
+    → (list : List Outcome) → ArePlayed start ways all links
+    → AreShown (graph links (ends all)) found → AreReadingsPut start ways found (length found) list → (i : ℕ) (r : Reading)
     → slice_get found i ≡ Some r
     → IsListed list r.numbers.items
-readings_listed start all links found list played shown put i r there =
+readings_listed start ways all links found list played shown put i r there =
     let s = shown i r there in
     put i r (slice_get_within found i r there) there (played s.0 r.acts.items r.numbers.items s.1)
 
@@ -55,13 +58,13 @@ all_read all links found list whole listed n acts numbers reads =
     subst (IsListed list) h.3 (listed h.0 h.1 h.2)
 
 -- whatever can be read is played by its steps
-pub played : (start : CoreValue) (live : SlotTable) → IsLiveness start.module_run live → (all : List FoundValue) (links : List Edge)
-    → AreLinked live start.module_run all links → AreFound start all
+pub played : (start : CoreValue) (live : SlotTable) → IsLiveness start.module_run live → (ways : List (List ℕ)) (all : List FoundValue)
+    → (links : List Edge) → AreLinked live start.module_run ways all links → AreFound start all
     → slice_get all 0 ≡ Some (first_found start) → IsWithinLimits start.module_run → IsAccepted start.module_run
     → AreArguments start.module_run start.world.arguments → start.world ≡ opening start.module_run start.world.arguments
-    → ArePlayed start all links
-played start live liveness all links linked found first limits ok taken begins n acts numbers reads =
-    let f = read_follows start live liveness all links linked found first limits ok taken begins n acts numbers reads in
+    → ArePlayed start ways all links
+played start live liveness ways all links linked found first limits ok taken begins n acts numbers reads =
+    let f = read_follows start live liveness ways all links linked found first limits ok taken begins n acts numbers reads in
     record {
       ended = f.ended;
       prints = f.prints ∙ ap (λ ns. ns ++ numbers) (first_silent start limits ok);

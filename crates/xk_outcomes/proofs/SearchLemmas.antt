@@ -1,19 +1,21 @@
 -- What is printed by one step more; and those that were found grow in number.
-use Rattle.std.proofs.Common.{◌≡◌, ◌∙◌, ℕ, ℤ, zero, suc, ◌+◌, ◌<◌, ◌≤◌, ◌⊎◌, inl, inr, Bool, true, false}
+use Rattle.std.proofs.Common.{◌≡◌, ◌∙◌, ℕ, ℤ, zero, suc, ◌+◌, ◌<◌, ◌≤◌, ◌⊎◌, inl, inr, Bool, true, false, true≢false}
 use Rattle.std.proofs.Common.{◌||◌, ◌==◌, List, [], ◌∷◌, ◌++◌, length, Option, Some, refl, sym, ap, subst, append_assoc, arith, slice_get}
 use Rattle.std.specs.Option.{option_to_list}
-use Rattle.std.specs.Prelude.{map}
-use Rattle.std.proofs.lemmas.List.{append-nil, map-append}
+use Rattle.std.specs.Prelude.{if◌then◌else◌, map}
+use Rattle.std.proofs.lemmas.List.{append-nil, get_or_append_left, length_push, map-append}
 use Rattle.std.proofs.lemmas.Option.{slice_get_within, none-some, same_Some}
 use Rattle.xk_types.specs.declared.world.Event.{Event}
 use Rattle.xk_types.specs.Code.{ModuleValue}
 use Rattle.xk_types.specs.World.{World}
 use Rattle.xk_types.specs.Step.{Stepped, step}
-use Rattle.xk_types.specs.Schedule.{Through, run, all_ended, is_enabled, number_printed, printed}
+use Rattle.xk_types.specs.Schedule.{Through, run, all_ended, number_printed, printed}
 use Rattle.xk_law_schedules.proofs.ReachabilityLemmas.{same_through, first_step}
 use Rattle.xk_law_commute.proofs.ChangeSquareLemmas.{found_of}
-use Rattle.xk_liveness.specs.Liveness.{SlotTable, live_part}
-use Rattle.xk_ranks.specs.Ranks.{remains}
+use Rattle.xk_law_commute.proofs.QuietStepLaw.{enabled_step}
+use Rattle.xk_liveness.specs.Liveness.{SlotTable}
+use Rattle.xk_digests.specs.Digest.{with_numbers}
+use Rattle.xk_ranks.proofs.RankLaw.{rank_ends}
 use Rattle.xk_closed_sets.specs.ClosedSets.{is_in}
 use Rattle.xk_readings.specs.declared.edge.Edge.{Edge}
 use Rattle.xk_rank_digests.specs.RankDigest.{rank_digest}
@@ -22,13 +24,14 @@ use Rattle.xk_rank_digests.proofs.RankLikenessLemmas.{told_by_rank, told_turned}
 use Rattle.xk_types.proofs.ListLemmas.{get-append_left as stays, get_inside as there_is, get_push as at_end}
 use Rattle.xk_readings.proofs.ListLemmas.{place}
 use Rattle.xk_closed.proofs.ClosedLaw.{printed_first}
-use Rattle.xk_outcomes.specs.Alikeness.{Alikeness, live_by}
+use Rattle.xk_outcomes.specs.Alikeness.{Alikeness, AreAsOne, AreAsOneByRank, live_by}
 use Rattle.xk_core.specs.Core.{CoreValue}
-use Rattle.xk_outcomes.specs.Found.{FoundValue, act_of, first_found, next_by_rank}
+use Rattle.xk_outcomes.specs.Found.{FoundValue, first_found, through}
+use Rattle.xk_outcomes.specs.Ways.{IsWay, is_tried, way_of}
 use Rattle.xk_outcomes.specs.Links.{AreLinked, HasLink, IsLink, LeadTo, Leads, ends}
 use Rattle.xk_outcomes.specs.Rising.{key}
 use Rattle.xk_outcomes.specs.Search.{AreDifferent, AreDigests, AreExpanded, Has, HasAfter, IsAdded}
-use Rattle.xk_outcomes.specs.Search.{IsAt, IsExpanded, IsGrown, IsThere, found_digest, is_tried}
+use Rattle.xk_outcomes.specs.Search.{IsAt, IsExpanded, IsGrown, IsThere, found_digest}
 
 -- ---- by a step
 
@@ -68,15 +71,17 @@ leads_grown old new grown (suc n) k acts numbers h =
 
 pub after_grown : (m : ModuleValue) (like : Alikeness) (old new : List FoundValue) (links more : List Edge) (number : ℕ) (x : FoundValue) (a : ℕ) → IsGrown old new
     → IsGrown links more → HasAfter m like old links number x a → HasAfter m like new more number x a
-after_grown m like old new links more number x a grown longer h u e t =
-    let r = h u e t in (
-      r.0,
-      r.1,
-      r.2,
-      r.3,
-      there_grown like old new r.1 (x.printed ++ option_to_list (number_printed e)) r.3 grown r.4,
-      link_grown links more number (number_printed e) r.3 longer r.5,
-    )
+after_grown m like old new links more number x a grown longer h enabled =
+    let r = h enabled in record {
+      there = r.there;
+      more = r.more;
+      alone = r.alone;
+      said = r.said;
+      prints = r.prints;
+      to = r.to;
+      is = there_grown like old new r.there.core.world r.there.printed r.to grown r.is;
+      link = link_grown links more number r.said r.to longer r.link;
+    }
 
 pub longer : (old new : List FoundValue) (n : ℕ) → IsGrown old new → n < length old → n < length new
 longer old new n grown h = let y = there_is old n h in slice_get_within new n y.0 (grown n y.0 y.1)
@@ -87,20 +92,58 @@ longer old new n grown h = let y = there_is old n h in slice_get_within new n y.
 pub added_there : (like : Alikeness) (old new : List FoundValue) (x : FoundValue) (k : ℕ) → IsAdded like old new x k
     → IsThere like new x.core.world x.printed k
 added_there like old new x k (inl h) = subst (λ l. IsThere like l x.core.world x.printed k) (sym h.0) h.1
-added_there like old new x k (inr h) =
-    (x, subst (λ l. slice_get l k ≡ Some x) (sym h.0) (subst (λ j. slice_get (old ++ x ∷ []) j ≡ Some x) (sym h.1) (at_end old x)), (inl refl, refl))
+added_there like old new x k (inr h) = (
+  x,
+  subst (λ l. slice_get l k ≡ Some x) (sym h.0) (subst (λ j. slice_get (old ++ x ∷ []) j ≡ Some x) (sym h.1) (at_end old x)),
+  (inl (inl refl), refl),
+)
 
 added_grown : (like : Alikeness) (old new : List FoundValue) (x : FoundValue) (k : ℕ) → IsAdded like old new x k → IsGrown old new
 added_grown like old new x k (inl h) = grown_same old new h.0
 added_grown like old new x k (inr h) = grown_push old new x h.0
 
+-- worlds that go on as one do so the other way round, and by rank
+pub as_one_turned : (live : SlotTable) (w v : World) → AreAsOne live w v → AreAsOne live v w
+as_one_turned live w v (inl alike) = inl (told_turned live w v alike)
+as_one_turned live w v (inr over) = inr (over.1, over.0)
+
+as_one_by_rank : (live : SlotTable) (w v : World) → AreAsOne live w v → AreAsOneByRank live w v
+as_one_by_rank live w v (inl alike) = inl (told_by_rank live w v alike)
+as_one_by_rank live w v (inr over) = inr over
+
+-- a way of a number is the same with one more behind it
+pub way_wider : (ways wider : List (List ℕ)) (w : List ℕ) (k : ℕ) → wider ≡ ways ++ w ∷ [] → k < length ways
+    → way_of wider k ≡ way_of ways k
+way_wider ways wider w k one within = ap (λ (l : List (List ℕ)). way_of l k) one ∙ get_or_append_left ways (w ∷ []) [] k within
+
+-- links stay such with a way more
+pub linked_wider : (live : SlotTable) (m : ModuleValue) (ways wider : List (List ℕ)) (w : List ℕ) (all : List FoundValue)
+    → (links : List Edge)
+    → wider ≡ ways ++ w ∷ [] → AreLinked live m ways all links → AreLinked live m wider all links
+linked_wider live m ways wider w all links one linked = record { each = λ j l there. by l (linked.each j l there); led = linked.led }
+  where
+    by : (l : Edge) → IsLink live m ways all l → IsLink live m wider all l
+    by l h =
+        let same : way_of ways l.act ≡ way_of wider l.act = sym (way_wider ways wider w l.act one h.known) in
+        let many : length wider ≡ length ways + 1 = ap (λ (k : List (List ℕ)). length k) one ∙ length_push ways w in
+        let known = h.known in
+        record {
+          source = h.source;
+          target = h.target;
+          out = h.out;
+          into = h.into;
+          known = omega (arith, many, known);
+          is_way = subst (λ way. IsWay m h.source way l.printed) same h.is_way;
+          alike = subst (λ way. AreAsOneByRank live (through way h.source).core.world h.target.core.world) same h.alike;
+        }
+
 -- Where those that were found were linked, they are with one more, and the link to it.
-pub linked_push : (m : ModuleValue) (like : Alikeness) (old new : List FoundValue) (links more : List Edge) (l : Edge) (x y : FoundValue)
-    → AreLinked (live_by like) m old links
-    → slice_get old l.from ≡ Some x → y ≡ next_by_rank l.act x → is_enabled m x.core.world (act_of x.core.world l.act) ≡ true
-    → y.printed ≡ x.printed ++ option_to_list l.printed
-    → IsAdded like old new y l.to → more ≡ links ++ l ∷ [] → AreLinked (live_by like) m new more
-linked_push m like old new links more l x y linked out is enabled prints added one = record {
+pub linked_push : (m : ModuleValue) (like : Alikeness) (ways : List (List ℕ)) (old new : List FoundValue) (links more : List Edge)
+    → (l : Edge)
+    → (x y : FoundValue) → AreLinked (live_by like) m ways old links
+    → slice_get old l.from ≡ Some x → l.act < length ways → y ≡ through (way_of ways l.act) x → IsWay m x (way_of ways l.act) l.printed
+    → IsAdded like old new y l.to → more ≡ links ++ l ∷ [] → AreLinked (live_by like) m ways new more
+linked_push m like ways old new links more l x y linked out known is is_way added one = record {
   each = λ j z there. by_link j z (place links l j z (subst (λ (e : List Edge). slice_get e j ≡ Some z) one there));
   led = λ k z there. by_one added k z there;
 }
@@ -112,7 +155,7 @@ linked_push m like old new links more l x y linked out is enabled prints added o
     longer_links = grown_push links more l one
 
     -- the new link
-    this : IsLink (live_by like) m new l
+    this : IsLink (live_by like) m ways new l
     this =
         let t = added_there like old new y l.to added in
         record {
@@ -120,13 +163,13 @@ linked_push m like old new links more l x y linked out is enabled prints added o
           target = t.0;
           out = grown l.from x out;
           into = t.1;
-          enabled = enabled;
-          alike = ap (λ (z : FoundValue). live_part (live_by like) (remains z.core.world)) (sym is)
-              ∙ told_by_rank (live_by like) y.core.world t.0.core.world t.2.0;
-          prints = ap (λ (z : FoundValue). z.printed) (sym is) ∙ prints;
+          known = known;
+          is_way = is_way;
+          alike = subst (λ (z : FoundValue). AreAsOneByRank (live_by like) z.core.world t.0.core.world) is
+              (as_one_by_rank (live_by like) y.core.world t.0.core.world t.2.0);
         }
 
-    by_link : (j : ℕ) (z : Edge) → (slice_get links j ≡ Some z) ⊎ ((j ≡ length links) × (l ≡ z)) → IsLink (live_by like) m new z
+    by_link : (j : ℕ) (z : Edge) → (slice_get links j ≡ Some z) ⊎ ((j ≡ length links) × (l ≡ z)) → IsLink (live_by like) m ways new z
     by_link j z (inl a) =
         let h = linked.each j z a in
         record {
@@ -134,11 +177,11 @@ linked_push m like old new links more l x y linked out is enabled prints added o
           target = h.target;
           out = grown z.from h.source h.out;
           into = grown z.to h.target h.into;
-          enabled = h.enabled;
+          known = h.known;
+          is_way = h.is_way;
           alike = h.alike;
-          prints = h.prints;
         }
-    by_link j z (inr b) = subst (IsLink (live_by like) m new) b.1 this
+    by_link j z (inr b) = subst (IsLink (live_by like) m ways new) b.1 this
 
     was_led : (k : ℕ) (z : FoundValue) → slice_get old k ≡ Some z → LeadTo more k z.printed
     was_led k z there = let h = linked.led k z there in (h.0, h.1, leads_grown links more longer_links h.0 k h.1 z.printed h.2)
@@ -157,7 +200,7 @@ linked_push m like old new links more l x y linked out is enabled prints added o
             x.printed,
             h.2,
             refl,
-            prints,
+            ap (λ (z : FoundValue). z.printed) is ∙ is_way.prints,
           ),
         )
 
@@ -174,10 +217,11 @@ pub added_link : (links more : List Edge) (l : Edge) → more ≡ links ++ l ∷
 added_link links more l one = (length links, l, subst (λ (e : List Edge). slice_get e (length links) ≡ Some l) (sym one) (at_end links l), refl, refl, refl)
 
 -- the first one alone is linked, by no link
-pub linked_first : (live : SlotTable) (m : ModuleValue) (start : CoreValue) (all : List FoundValue) (links : List Edge) → all ≡ first_found start ∷ []
-    → links ≡ []
-    → (first_found start).printed ≡ [] → AreLinked live m all links
-linked_first live m start all links one none silent = record {
+pub linked_first : (live : SlotTable) (m : ModuleValue) (ways : List (List ℕ)) (start : CoreValue) (all : List FoundValue)
+    → (links : List Edge)
+    → all ≡ first_found start ∷ [] → links ≡ []
+    → (first_found start).printed ≡ [] → AreLinked live m ways all links
+linked_first live m ways start all links one none silent = record {
   each = λ j l there. absurd (none-some l (subst (λ (e : List Edge). slice_get e j ≡ Some l) none there));
   led = λ k x there. by k x (subst (λ (e : List FoundValue). slice_get e k ≡ Some x) one there);
 }
@@ -207,8 +251,9 @@ after_all m like all links number here test last before enough a passes = by (si
 
     by : (a < last) ⊎ (last ≤ a) → HasAfter m like all links number here a
     by (inl l) = before a l passes
-    by (inr g) = λ u e t.
-        let act = found_of m here.core.world a u e t in
+    by (inr g) = λ enabled.
+        let t = enabled_step (step m here.core.world a) enabled in
+        let act = found_of m here.core.world a t.0 t.1 t.2 in
         let inside = slice_get_within here.core.world.activities a act.0 act.1 in
         absurd (omega (arith, inside, g, enough))
 
@@ -247,9 +292,27 @@ expanded_more m like old new links more n within grown longer_links before here 
 -- those that are at the same have one digest
 pub same_digests : (like : Alikeness) (x new : FoundValue) → IsAt like x new.core.world new.printed
     → found_digest like x ≡ found_digest like new
-same_digests like x new at = ap (rank_digest (live_by like) x.core.world) at.1
-    ∙ sym (rank_digests (live_by like) new.core.world x.core.world (key like.order new.printed)
-    (told_by_rank (live_by like) new.core.world x.core.world at.0))
+same_digests like x new at = by at.0 (all_ended x.core.world) (all_ended new.core.world) refl refl
+  where
+    told : (b : Bool) (y : FoundValue) → ℕ
+    told b y = if b then with_numbers 0 (key like.order y.printed)
+        else rank_digest (live_by like) y.core.world (key like.order y.printed)
+
+    by : AreAsOne (live_by like) new.core.world x.core.world → (b c : Bool) → all_ended x.core.world ≡ b → all_ended new.core.world ≡ c
+        → told b x ≡ told c new
+    by one true true e f = ap (with_numbers 0) at.1
+    by (inl alike) false false e f = ap (rank_digest (live_by like) x.core.world) at.1
+        ∙ sym (rank_digests (live_by like) new.core.world x.core.world (key like.order new.printed)
+        (told_by_rank (live_by like) new.core.world x.core.world alike))
+    by (inl alike) true false e f =
+        absurd (true≢false (sym e ∙ sym (rank_ends (live_by like) new.core.world x.core.world
+        (told_by_rank (live_by like) new.core.world x.core.world alike)) ∙ f))
+    by (inl alike) false true e f =
+        absurd (true≢false (sym f ∙ rank_ends (live_by like) new.core.world x.core.world
+        (told_by_rank (live_by like) new.core.world x.core.world alike) ∙ e))
+    by (inr over) true false e f = absurd (true≢false (sym over.0 ∙ f))
+    by (inr over) false true e f = absurd (true≢false (sym over.1 ∙ e))
+    by (inr over) false false e f = absurd (true≢false (sym over.1 ∙ e))
 
 pub different_push : (like : Alikeness) (old new : List FoundValue) (o : FoundValue) → new ≡ old ++ o ∷ []
     → (Has like old o.core.world o.printed → ⊥)
@@ -267,7 +330,7 @@ different_push like old new o e fresh before i j x y hi hj same =
             y,
             b,
             subst (λ (z : FoundValue). IsAt like y z.core.world z.printed) (sym a.1)
-                (told_turned (live_by like) y.core.world x.core.world same.0, sym same.1),
+                (as_one_turned (live_by like) y.core.world x.core.world same.0, sym same.1),
           ),
         ))
     by (inr a) (inr b) = a.0 ∙ sym b.0

@@ -17,7 +17,7 @@ pub record IsExplored (order : Order) (start : CoreValue) (limit : ℕ) (x : Exp
   pub begins : slice_get x.found.all 0 ≡ Some (first_found start)
   pub found : AreFound start x.found.all
   pub liveness : IsLiveness start.module_run (live_by x.found.like)
-  pub linked : AreLinked (live_by x.found.like) start.module_run x.found.all x.links.items
+  pub linked : AreLinked (live_by x.found.like) start.module_run x.found.ways x.found.all x.links.items
   pub rest : AreAtRest x.found.all
   pub different : AreDifferent x.found.like x.found.all
   pub all : x.complete ≡ true → AreAllFound order start x.found.all x.links.items

@@ -71,11 +71,6 @@ next a x = at_rest (one_more a x)
 abbrev pub first_found : CoreValue → FoundValue
 first_found start = at_rest (record { core = start; printed = [] })
 
--- where steps of these activities lead, the last of which stands first
-abbrev pub along : List ℕ → FoundValue → FoundValue
-along [] x = x
-along (a ∷ way) x = next a (along way x)
-
 -- the activity of a rank among those that haven't ended
 abbrev pub act_of : World → ℕ → ℕ
 act_of w r = number_of (going w.activities) r
@@ -84,6 +79,11 @@ act_of w r = number_of (going w.activities) r
 abbrev pub next_by_rank : ℕ → FoundValue → FoundValue
 next_by_rank r x = next (act_of x.core.world r) x
 
--- where such steps lead, each by a rank, the first of which stands first
+-- where such steps lead, the last of which stands first
+abbrev pub along : List ℕ → FoundValue → FoundValue
+along [] x = x
+along (r ∷ way) x = next_by_rank r (along way x)
+
+-- the same, the first of which stands first
 abbrev pub through : List ℕ → FoundValue → FoundValue
 through ranks x = fold (λ y r. next_by_rank r y) x ranks

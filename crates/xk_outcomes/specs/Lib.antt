@@ -4,6 +4,7 @@ pub mod Sets
 pub mod PrivateSteps
 pub mod Found
 pub mod Alikeness
+pub mod Ways
 pub mod Links
 pub mod Search
 pub mod Explored

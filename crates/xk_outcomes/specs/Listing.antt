@@ -5,13 +5,14 @@ use Rattle.xk_types.specs.World.{World, opening}
 use Rattle.xk_types.specs.Schedule.{Through, run, all_ended, printed}
 use Rattle.xk_types.specs.Logs.{schedule_of}
 use Rattle.xk_liveness.specs.Liveness.{IsLiveness, SlotTable}
-use Rattle.xk_rank_digests.specs.RankLikeness.{AreToldAlike}
+use Rattle.xk_outcomes.specs.Alikeness.{AreAsOne}
 use Rattle.xk_core.specs.Core.{CoreValue}
 use Rattle.xk_readings.specs.declared.edge.Edge.{Edge}
 use Rattle.xk_readings.specs.declared.listing.Reading.{Reading}
 use Rattle.xk_readings.specs.Graphs.{graph}
 use Rattle.xk_readings.specs.Readings.{Reads}
 use Rattle.xk_outcomes.specs.Found.{FoundValue, first_found, through}
+use Rattle.xk_outcomes.specs.Ways.{steps_of}
 use Rattle.xk_outcomes.specs.Links.{LeadTo, ends}
 use Rattle.xk_outcomes.specs.declared.listing.Outcome.{Outcome}
 use Rattle.xk_outcomes.specs.declared.order.Order.{Order}
@@ -41,10 +42,10 @@ pub record IsPlayed (start : CoreValue) (acts : List ℕ) (numbers : List ℤ) :
   pub ended : all_ended (through acts (first_found start)).core.world ≡ true
   pub prints : (through acts (first_found start)).printed ≡ numbers
 
--- whatever can be read along the links is played so
-abbrev pub ArePlayed : CoreValue → List FoundValue → List Edge → Type 0
-ArePlayed start all links = (n : ℕ) (acts : List ℕ) (numbers : List ℤ) → Reads (graph links (ends all)) n 0 acts numbers
-    → IsPlayed start acts numbers
+-- whatever can be read along the links is played so, by their ways
+abbrev pub ArePlayed : CoreValue → List (List ℕ) → List FoundValue → List Edge → Type 0
+ArePlayed start ways all links = (n : ℕ) (acts : List ℕ) (numbers : List ℤ) → Reads (graph links (ends all)) n 0 acts numbers
+    → IsPlayed start (steps_of ways acts) numbers
 
 -- whatever can be read along the links is listed
 abbrev pub AreRead : List FoundValue → List Edge → List Outcome → Type 0
@@ -52,9 +53,9 @@ AreRead all links list = (n : ℕ) (acts : List ℕ) (numbers : List ℤ) → Re
     → IsListed list numbers
 
 -- of the readings before this place, those that are played so are listed
-abbrev pub AreReadingsPut : CoreValue → List Reading → ℕ → List Outcome → Type 0
-AreReadingsPut start found place list = (i : ℕ) (r : Reading) → i < place → slice_get found i ≡ Some r
-    → IsPlayed start r.acts.items r.numbers.items
+abbrev pub AreReadingsPut : CoreValue → List (List ℕ) → List Reading → ℕ → List Outcome → Type 0
+AreReadingsPut start ways found place list = (i : ℕ) (r : Reading) → i < place → slice_get found i ≡ Some r
+    → IsPlayed start (steps_of ways r.acts.items) r.numbers.items
     → IsListed list r.numbers.items
 
 -- whatever stands along links to one of them in which all have ended is listed, as it is told in this order
@@ -83,12 +84,12 @@ AreEndsListedIn order m args schedules list = (k : ℕ) (p : List ℕ) (numbers 
     → IsListed list (ordered order numbers)
 
 -- These schedules are legal and lead to worlds at rest, and no two of them lead to worlds that are alike where slots are live, or by rank
--- as far as a core tells, unless what is printed on the way tells them apart.
+-- as far as a core tells, or in which all have ended, unless what is printed on the way tells them apart.
 pub record AreApartIn (live : SlotTable) (order : Order) (m : ModuleValue) (args : List ℤ) (schedules : List (List ℕ)) : Type 0 where
   pub legal : (k : ℕ) (p : List ℕ) → slice_get schedules k ≡ Some p → (w : World) × (run m p (opening m args) ≡ Through w) × IsAtRest m w
   pub apart : (i j : ℕ) (p q : List ℕ) (w v : World) → slice_get schedules i ≡ Some p → slice_get schedules j ≡ Some q
       → run m p (opening m args) ≡ Through w → run m q (opening m args) ≡ Through v
-      → AreToldAlike live w v → key order (printed m p (opening m args)) ≡ key order (printed m q (opening m args)) → i ≡ j
+      → AreAsOne live w v → key order (printed m p (opening m args)) ≡ key order (printed m q (opening m args)) → i ≡ j
 
 -- So many worlds at rest were kept, by a table that has all live slots, and what is printed by the ones in which all have ended is listed, unless as many are listed as the limit says.
 pub record HasKeptIn (order : Order) (m : ModuleValue) (args : List ℤ) (limit : ℕ) (list : List Outcome) (entries : ℕ) : Type 0 where

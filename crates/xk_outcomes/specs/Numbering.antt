@@ -8,6 +8,7 @@ use Rattle.xk_readings.specs.Readings.{Reads}
 use Rattle.xk_readings.specs.Rising.{ComesBefore}
 use Rattle.xk_core.specs.Core.{CoreValue}
 use Rattle.xk_outcomes.specs.Found.{FoundValue}
+use Rattle.xk_outcomes.specs.Ways.{steps_of}
 use Rattle.xk_outcomes.specs.Links.{ends}
 use Rattle.xk_outcomes.specs.Listing.{IsPlayed}
 use Rattle.xk_outcomes.specs.declared.listing.Outcome.{Outcome}
@@ -51,8 +52,9 @@ abbrev pub IsAddedAs : List ℤ → List Outcome → List Outcome → Type 0
 IsAddedAs numbers old new = (new ≡ old) ⊎ ((o : Outcome) × (new ≡ old ++ o ∷ []) × (o.numbers.items ≡ numbers))
 
 -- steps of its activities print the numbers of each reading
-abbrev pub ArePlayedAll : CoreValue → List Reading → Type 0
-ArePlayedAll start found = (i : ℕ) (r : Reading) → slice_get found i ≡ Some r → IsPlayed start r.acts.items r.numbers.items
+abbrev pub ArePlayedAll : CoreValue → List (List ℕ) → List Reading → Type 0
+ArePlayedAll start ways found =
+    (i : ℕ) (r : Reading) → slice_get found i ≡ Some r → IsPlayed start (steps_of ways r.acts.items) r.numbers.items
 
 -- from a place on those are listed that are among the readings before another one
 abbrev pub AreAddedFrom : List Reading → ℕ → ℕ → List Outcome → Type 0

@@ -1,21 +1,22 @@
 -- Worlds that are found one from another. This project's own.
-use Rattle.std.specs.Prelude.{◌≡◌, ℕ, ℤ, ◌<◌, ◌==◌, ◌||◌, ◌⊎◌, Bool, true, List, [], ◌∷◌, ◌++◌, length, Some, slice_get, map}
+use Rattle.std.specs.Prelude.{◌≡◌, ℕ, ℤ, ◌<◌, ◌⊎◌, Bool, true, List, [], ◌∷◌, ◌++◌, length, Option, Some, slice_get, map}
 use Rattle.std.specs.Option.{option_to_list}
+use Rattle.std.specs.Prelude.{if◌then◌else◌}
 use Rattle.xk_types.specs.declared.world.Event.{Event}
 use Rattle.xk_types.specs.Code.{ModuleValue}
 use Rattle.xk_types.specs.World.{World}
 use Rattle.xk_types.specs.Step.{Stepped, step}
-use Rattle.xk_types.specs.Schedule.{Through, run, all_ended, is_enabled, number_printed, printed}
+use Rattle.xk_types.specs.Schedule.{Through, run, all_ended, is_enabled, printed}
 use Rattle.xk_closed.specs.Closed.{IsClosed}
-use Rattle.xk_closed_sets.specs.ClosedSets.{is_in}
 use Rattle.xk_outcomes.specs.PrivateSteps.{has_private_step}
 use Rattle.xk_core.specs.Core.{CoreValue}
-use Rattle.xk_outcomes.specs.Alikeness.{Alikeness, live_by}
-use Rattle.xk_outcomes.specs.Found.{FoundValue, at_rest}
+use Rattle.xk_outcomes.specs.Alikeness.{Alikeness, AreAsOne, live_by}
+use Rattle.xk_outcomes.specs.Found.{FoundValue, at_rest, next}
+use Rattle.xk_outcomes.specs.Ways.{LeadsAlone}
 use Rattle.xk_readings.specs.declared.edge.Edge.{Edge}
 use Rattle.xk_outcomes.specs.declared.order.Order.{Order}
 use Rattle.xk_rank_digests.specs.RankDigest.{rank_digest}
-use Rattle.xk_rank_digests.specs.RankLikeness.{AreToldAlike}
+use Rattle.xk_digests.specs.Digest.{with_numbers}
 use Rattle.xk_outcomes.specs.Links.{HasLink, LeadTo}
 use Rattle.xk_outcomes.specs.Outcomes.{IsAtRest}
 use Rattle.xk_outcomes.specs.Rising.{key}
@@ -61,9 +62,9 @@ AreAtRest all = (k : ℕ) (x : FoundValue) → slice_get all k ≡ Some x → Is
 abbrev pub IsGrown : {X : Type 0} → List X → List X → Type 0
 IsGrown {X} old new = (k : ℕ) (x : X) → slice_get old k ≡ Some x → slice_get new k ≡ Some x
 
--- it is in a world that is told to be like this one, and these numbers being printed by then doesn't tell it apart
+-- from its world on the same can happen as from this one, and these numbers being printed by then doesn't tell it apart
 abbrev pub IsAt : Alikeness → FoundValue → World → List ℤ → Type 0
-IsAt like x w numbers = AreToldAlike (live_by like) w x.core.world × (key like.order x.printed ≡ key like.order numbers)
+IsAt like x w numbers = AreAsOne (live_by like) w x.core.world × (key like.order x.printed ≡ key like.order numbers)
 
 -- the one of a number is
 abbrev pub IsThere : Alikeness → List FoundValue → World → List ℤ → ℕ → Type 0
@@ -84,22 +85,31 @@ AreDifferent like all = (i j : ℕ) (x y : FoundValue) → slice_get all i ≡ S
 
 -- the digest of one that was found
 abbrev pub found_digest : Alikeness → FoundValue → ℕ
-found_digest like x = rank_digest (live_by like) x.core.world (key like.order x.printed)
+found_digest like x =
+    if all_ended x.core.world
+    then with_numbers 0 (key like.order x.printed)
+    else rank_digest (live_by like) x.core.world (key like.order x.printed)
 
 -- their digests
 abbrev pub AreDigests : Alikeness → List FoundValue → List ℕ → Type 0
 AreDigests like all digests = digests ≡ map (found_digest like) all
 
--- Where activity a can take a step from the one of a number, a link with what that prints leads to one of them; and so do private
--- steps behind the step.
-abbrev pub HasAfter : ModuleValue → Alikeness → List FoundValue → List Edge → ℕ → FoundValue → ℕ → Type 0
-HasAfter m like all links number x a = (u : World) (e : Event) → step m x.core.world a ≡ Stepped u e
-    → (list : List ℕ) × (v : World) × LeadsPrivately m list u v
-    × (k : ℕ) × IsThere like all v (x.printed ++ option_to_list (number_printed e)) k × HasLink links number (number_printed e) k
+-- A step of activity a leads from the one of a number to one of them, and steps behind it to which there was no choice; and so does a link,
+-- with what is printed there.
+pub record IsAfter (m : ModuleValue) (like : Alikeness) (all : List FoundValue) (links : List Edge) (number : ℕ) (x : FoundValue)
+    (a : ℕ) : Type 0 where
+  pub there : FoundValue
+  pub more : List ℕ
+  pub alone : LeadsAlone m more (next a x) there
+  pub said : Option ℤ
+  pub prints : there.printed ≡ x.printed ++ option_to_list said
+  pub to : ℕ
+  pub is : IsThere like all there.core.world there.printed to
+  pub link : HasLink links number said to
 
--- an activity is tried that is one of these; and each is where none is told
-abbrev pub is_tried : List Bool → ℕ → Bool
-is_tried members a = (length members == 0) || is_in members a
+-- so it is where the activity can take a step
+abbrev pub HasAfter : ModuleValue → Alikeness → List FoundValue → List Edge → ℕ → FoundValue → ℕ → Type 0
+HasAfter m like all links number x a = is_enabled m x.core.world a ≡ true → IsAfter m like all links number x a
 
 -- so it is of each activity of a closed set in which somebody can take a step
 pub record HasSetAfter (m : ModuleValue) (like : Alikeness) (all : List FoundValue) (links : List Edge) (number : ℕ) (x : FoundValue) : Type 0 where

@@ -6,7 +6,7 @@ use Rattle.xk_types.specs.World.{World, opening}
 use Rattle.xk_types.specs.Schedule.{Through, run, printed}
 use Rattle.xk_types.specs.Logs.{schedule_of}
 use Rattle.xk_liveness.specs.Liveness.{SlotTable}
-use Rattle.xk_rank_digests.specs.RankLikeness.{AreToldAlike}
+use Rattle.xk_outcomes.specs.Alikeness.{AreAsOne}
 use Rattle.xk_outcomes.specs.declared.listing.Outcome.{Outcome}
 use Rattle.xk_outcomes.specs.Outcomes.{AreAll, AreApart, AreDistinct, AreEndsListed, AreShown, IsAtRest, IsOutcome}
 
@@ -48,12 +48,12 @@ AreEndsSetListed m args schedules list = (k : ℕ) (p : List ℕ) (numbers : Lis
     → IsOutcome m args p numbers → IsSetListed list numbers
 
 -- These schedules are legal and lead to worlds at rest, and no two of them lead to worlds that are alike where slots are live, or by rank
--- as far as a core tells, and print the same numbers on the way, in whatever order.
+-- as far as a core tells, or in which all have ended, and print the same numbers on the way, in whatever order.
 pub record AreSetsApart (live : SlotTable) (m : ModuleValue) (args : List ℤ) (schedules : List (List ℕ)) : Type 0 where
   pub legal : (k : ℕ) (p : List ℕ) → slice_get schedules k ≡ Some p → (w : World) × (run m p (opening m args) ≡ Through w) × IsAtRest m w
   pub apart : (i j : ℕ) (p q : List ℕ) (w v : World) → slice_get schedules i ≡ Some p → slice_get schedules j ≡ Some q
       → run m p (opening m args) ≡ Through w → run m q (opening m args) ≡ Through v
-      → AreToldAlike live w v → HaveSameNumbers (printed m p (opening m args)) (printed m q (opening m args)) → i ≡ j
+      → AreAsOne live w v → HaveSameNumbers (printed m p (opening m args)) (printed m q (opening m args)) → i ≡ j
 
 -- ---- as lists of numbers, or without their order
 

@@ -1,6 +1,7 @@
 //! Those that were found, of most of which only how they were found is kept: from which, and by whose step.
 
-ghost use Rattle.std.specs.Prelude.{◌≡◌, ◌<◌, ◌⊎◌, ◌++◌, ◌∷◌, [], OnOk, true, false, length, slice_get, slice_set, IfNone, IfOk, IfSome, OnErr, Some, List};
+ghost use Rattle.std.specs.Prelude.{◌≡◌, ◌<◌, ◌⊎◌, ◌++◌, ◌∷◌, [], OnOk, true, false, length, reverse, slice_get};
+ghost use Rattle.std.specs.Prelude.{slice_set, IfNone, IfOk, IfSome, OnErr, Some, List};
 ghost use Rattle.std.specs.Bool.{Decides};
 ghost use Rattle.xk_types.specs.Bound.{steps_bound};
 ghost use Rattle.xk_types.specs.Schedule.{all_ended};
@@ -11,7 +12,8 @@ ghost use Rattle.xk_liveness.specs.Liveness.{IsLiveness};
 ghost use Rattle.xk_outcomes.specs.Alikeness.{live_by};
 ghost use Rattle.xk_outcomes.specs.Checkpoints.{IsCheckpoint};
 ghost use Rattle.xk_outcomes.specs.Entries.{first_entry};
-ghost use Rattle.xk_outcomes.specs.Found.{FoundValue, along, first_found, next, through};
+ghost use Rattle.xk_outcomes.specs.Found.{FoundValue, along, first_found, through};
+ghost use Rattle.xk_outcomes.specs.Ways.{steps_of, way_of};
 ghost use Rattle.xk_outcomes.specs.Links.{AreLinked, ends};
 ghost use Rattle.xk_outcomes.specs.Listing.{ArePlayed};
 ghost use Rattle.xk_outcomes.specs.Search.{AreDifferent, AreFound, AreSettled, Has, IsAdded, IsAt, IsFound, IsFoundBy};
@@ -24,18 +26,17 @@ use crate::run::Run;
 use std::alloc::{AllocError, Global};
 use std::marker::Model;
 use xk_core::Core;
-use xk_digests::Digests;
+use xk_digests::{Digests, with_numbers};
 use xk_live_slots::LiveSlots;
 use xk_rank_digests::{are_alike_by_rank, rank_digest_of};
-use xk_types::Act;
 
-/// How one was found: by a step from one before it, and by private steps.
+/// How one was found: by a way from one before it.
 #[derive(Clone, Copy, Debug)]
 pub struct Edge {
     /// The number of the one before.
     pub from: usize,
-    /// Who took the step.
-    pub act: Act,
+    /// The number of the way.
+    pub way: usize,
 }
 
 /// Steps from one that was found to another.
@@ -43,18 +44,21 @@ pub struct Edge {
 struct Way {
     // where they begin
     from: usize,
-    // by whom, the last one first
-    acts: Vec<Act>,
+    // by activities of these ranks, the last one first
+    ranks: Vec<u32>,
 }
 
-/// Those that were found, numbered from 0. The first is found by private steps alone. A core is kept with the first, and with one to
-/// which many steps lead from where one is kept: whoever wants to look at another is led there again from such a checkpoint. No two are in
-/// worlds that are told to be alike, where slots are live or by rank, unless the order tells them apart by what was printed by then.
+/// Those that were found, numbered from 0. The first is found by private steps alone. A core is kept with the first, and
+/// with one to which many steps lead from where one is kept: whoever wants to look at another is led there again from
+/// such a checkpoint. No two are in worlds that are told to be alike, where slots are live or by rank, or in which all
+/// have ended, unless the order tells them apart by what was printed by then.
 #[derive(Drop)]
 pub struct Entries<'m> {
     start: Core<'m>,
     order: Order,
     live: LiveSlots<'m>,
+    // for each of them the ranks of the activities that take its steps
+    ways: Vec<Vec<u32>>,
     edges: Vec<Edge>,
     digests: Digests,
     // of each whether all have ended in it
@@ -69,18 +73,20 @@ pub struct Entries<'m> {
 
 impl<'m> Model for Entries<'m> {
     ghost use Rattle.xk_outcomes.specs.Entries.{AreEntries, EntriesValue, led_by};
+    ghost use Rattle.xk_outcomes.specs.Ways.{ways_in};
 
     ghost Value = { EntriesValue };
 
     ghost view = { λ e. record {
       start = e.start;
       like = record { order = e.order; slots = e.live };
-      all = led_by e.start e.edges.items;
+      ways = ways_in e.ways.items;
+      all = led_by (ways_in e.ways.items) e.start e.edges.items;
     } };
 
     ghost invariant = { λ e. AreEntries e.start
-        (record { order = e.order; slots = e.live }) e.edges.items e.digests e.over.items
-        e.checkpoints.items };
+        (record { order = e.order; slots = e.live }) (ways_in e.ways.items) e.edges.items
+        e.digests e.over.items e.checkpoints.items };
 }
 
 /// The digest of one.
@@ -94,6 +100,9 @@ fn found_digest(
         ≡ found_digest (record { order = order; slots = live.now }) x.now) }
 {
     let key = key_of(alloc, order, &x.printed)?;
+    if x.core.ended() {
+        return Ok(with_numbers(0, &key));
+    }
     Ok(rank_digest_of(live, &x.core, &key))
 }
 
@@ -104,7 +113,7 @@ pub fn are_same(a: &[i64], b: &[i64]) -> bool
     a == b
 }
 
-/// Whether the two are in worlds that are told to be alike, and nothing that was printed by then tells them apart.
+/// Whether from the worlds of the two the same can happen, and nothing that was printed by then tells them apart.
 fn is_same(
     alloc: Global,
     order: Order,
@@ -124,6 +133,9 @@ fn is_same(
     let new_key = key_of(alloc, order, &new.printed)?;
     if !are_same(&key, &new_key) {
         return Ok(false);
+    }
+    if new.core.ended() && x.core.ended() {
+        return Ok(true);
     }
     are_alike_by_rank(alloc, live, &new.core, &x.core)
 }
@@ -193,6 +205,7 @@ impl<'m> Entries<'m> {
             start,
             order,
             live,
+            ways: Vec::new(alloc),
             edges: Vec::new(alloc),
             digests,
             over,
@@ -226,17 +239,71 @@ impl<'m> Entries<'m> {
     pub fn longest(&self) -> u64
         ensures bound { result ≡ steps_bound self.now.start.module_run }
         ensures longest { (links : List Link)
-            → AreLinked (live_by self.now.like) self.now.start.module_run self.now.all links
+            → AreLinked (live_by self.now.like) self.now.start.module_run self.now.ways self.now.all
+            links
             → IsLongest (graph links (ends self.now.all)) result }
         // What is printed along links to where all have ended is printed by their steps.
         ensures played { (links : List Link)
-            → AreLinked (live_by self.now.like) self.now.start.module_run self.now.all links
-            → ArePlayed self.now.start self.now.all links }
+            → AreLinked (live_by self.now.like) self.now.start.module_run self.now.ways self.now.all
+            links
+            → ArePlayed self.now.start self.now.ways self.now.all links }
     {
         let verified = self.start.module();
         // For the law: the module is accepted.
         let _accepted = verified.module();
         verified.steps()
+    }
+
+    /// The ranks on the way of a number, if there is one.
+    fn way(&self, number: usize) -> &[u32]
+        ensures { result.now ≡ way_of self.now.ways number }
+    {
+        match self.ways.get(number) {
+            Some(way) => way,
+            None => &[],
+        }
+    }
+
+    /// Puts the ranks on a way behind these, the last one first.
+    fn put_backward(
+        &self,
+        alloc: Global,
+        number: usize,
+        ranks: &mut Vec<u32>,
+    ) -> Result<(), AllocError>
+        ensures { OnOk result (ranks.new.items
+            ≡ ranks.old.items ++ reverse (way_of self.now.ways number)) }
+    {
+        let mut way = self.way(number).to_vec(alloc)?;
+        way.reverse();
+        ranks.extend_from_slice(&way)?;
+        Ok(())
+    }
+
+    /// The ranks on ways that are gone one after another.
+    pub fn steps(&self, alloc: Global, ways: &[usize]) -> Result<Vec<u32>, AllocError>
+        ensures { IfOk result (λ ranks. ranks.items ≡ steps_of self.now.ways ways.now) }
+    {
+        let mut ranks = Vec::new(alloc);
+        for number in ways {
+            ranks.extend_from_slice(self.way(*number))?;
+        }
+        Ok(ranks)
+    }
+
+    /// Adds a way. Its number. Err where memory was refused: nothing is added then.
+    pub fn add_way(&mut self, way: Vec<u32>) -> Result<usize, AllocError>
+        ensures start { self.new.start ≡ self.old.start }
+        ensures like { self.new.like ≡ self.old.like }
+        ensures all { self.new.all ≡ self.old.all }
+        ensures added { IfOk result (λ number. (number ≡ length self.old.ways)
+            × (self.new.ways ≡ self.old.ways ++ way.items ∷ [])) }
+        ensures same { OnErr result (self.new.ways ≡ self.old.ways) }
+    {
+        let number = self.ways.len();
+        self.ways.reserve(1)?;
+        self.ways.push_reserved(way);
+        Ok(number)
     }
 
     /// The way to one from another that stands on it, or else from the first.
@@ -245,16 +312,16 @@ impl<'m> Entries<'m> {
         ensures from { IfOk result (λ way. (way.from ≡ 0) ⊎ (way.from ≡ stop)) }
         ensures leads { IfOk result (λ way. (x : FoundValue)
             → slice_get self.now.all way.from ≡ Some x
-            → slice_get self.now.all number ≡ Some (along way.acts.items x)) }
+            → slice_get self.now.all number ≡ Some (along way.ranks.items x)) }
     {
-        let mut acts = Vec::new(alloc);
+        let mut ranks = Vec::new(alloc);
         let mut at = number;
         while at > 0 && at != stop {
             let edge = self.edges[at - 1];
-            acts.push(edge.act)?;
+            self.put_backward(alloc, edge.way, &mut ranks)?;
             at = edge.from;
         }
-        Ok(Way { from: at, acts })
+        Ok(Way { from: at, ranks })
     }
 
     /// The last checkpoint on the way to the one of a number.
@@ -291,7 +358,7 @@ impl<'m> Entries<'m> {
         let checkpoint = self.checkpoint(number);
         let way = self.way_to(alloc, number, checkpoint.number)?;
         let mut x = self.copy_at(alloc, checkpoint, way.from)?;
-        match x.go_along(way.acts) {
+        match x.go_along(way.ranks) {
             Ok(()) => Ok(x),
             Err(_) => Err(AllocError),
         }
@@ -315,7 +382,7 @@ impl<'m> Entries<'m> {
     {
         let way = self.way_to(alloc, number, 0)?;
         let mut run = Run::begin(alloc, &self.start)?;
-        match run.go_along(way.acts) {
+        match run.go_along(way.ranks) {
             Ok(()) => Ok(run),
             Err(_) => Err(AllocError),
         }
@@ -377,19 +444,21 @@ impl<'m> Entries<'m> {
         Ok(None)
     }
 
-    /// Adds what a step of the activity leads to from the one of a number, if none is the same yet. The number of the
-    /// one that is. Err where memory was refused: nothing is added then.
+    /// Adds what a way leads to from the one of a number, if none is the same yet. The number of the one that is. Err where memory was
+    /// refused: nothing is added then.
     pub fn add(
         &mut self,
         alloc: Global,
         from: usize,
-        act: Act,
+        way: usize,
         new: &Found<'_>,
     ) -> Result<usize, AllocError>
-        requires { (x : FoundValue) × (slice_get self.old.all from ≡ Some x)
-            × (new.now ≡ next act x) }
+        requires way { way < length self.old.ways }
+        requires led { (x : FoundValue) × (slice_get self.old.all from ≡ Some x)
+            × (new.now ≡ through (way_of self.old.ways way) x) }
         ensures start { self.new.start ≡ self.old.start }
         ensures like { self.new.like ≡ self.old.like }
+        ensures ways { self.new.ways ≡ self.old.ways }
         ensures grown { IsGrown self.old.all self.new.all }
         ensures added { IfOk result (IsAdded self.old.like self.old.all self.new.all new.now) }
         ensures same { OnErr result (self.new.all ≡ self.old.all) }
@@ -406,7 +475,7 @@ impl<'m> Entries<'m> {
         self.over.reserve(1)?;
         self.nearest.reserve(1)?;
         self.digests.push(digest)?;
-        self.edges.push_reserved(Edge { from, act });
+        self.edges.push_reserved(Edge { from, way });
         self.over.push_reserved(new.core.ended());
         self.nearest.push_reserved(nearest);
         Ok(number)

@@ -9,6 +9,7 @@ use crate::private_steps::has_private_step;
 use std::alloc::{AllocError, Global};
 use std::marker::Model;
 use xk_core::Core;
+use xk_rank_digests::act_of_rank;
 use xk_scheduler::keep_printed;
 use xk_types::Act;
 
@@ -114,11 +115,12 @@ impl<'m> Found<'m> {
         }
     }
 
-    /// Steps of these activities, the last of which stands first, and private steps behind each.
-    pub fn go_along(&mut self, mut way: Vec<Act>) -> Result<(), AllocError>
+    /// Steps of activities of these ranks, the last of which stands first, and private steps behind each.
+    pub fn go_along(&mut self, mut way: Vec<u32>) -> Result<(), AllocError>
         ensures { OnOk result (self.new ≡ along way.items self.old) }
     {
-        while let Some(act) = way.pop() {
+        while let Some(rank) = way.pop() {
+            let act = act_of_rank(&self.core, rank);
             self.go_on(act)?;
         }
         Ok(())

@@ -6,6 +6,7 @@ ghost use Rattle.xk_outcomes.specs.declared.listing.Outcome.{Outcome as AnOutcom
 ghost use Rattle.xk_outcomes.specs.declared.order.Order.TheVariants as told;
 ghost use Rattle.xk_outcomes.specs.Alikeness.{live_by};
 ghost use Rattle.xk_outcomes.specs.Links.{AreLinked};
+ghost use Rattle.xk_outcomes.specs.Ways.{steps_of};
 ghost use Rattle.xk_outcomes.specs.Listing.{AreMet, AreOf, AreRead, AreReadingsPut, IsPlayed, KeepsListed};
 ghost use Rattle.xk_outcomes.specs.Numbering.{AreAddedFrom, AreInOrder, AreInOrderIn, ArePlayedAll, AreReadingsFirst};
 ghost use Rattle.xk_outcomes.specs.Numbering.{AreRisingFrom, IsAddedAs};
@@ -30,16 +31,19 @@ fn note_reading(
     ensures distinct { AreDistinct list.old → AreDistinct list.new }
     ensures kept { KeepsListed list.old list.new }
     ensures listed { IfOk result (λ noted. noted ≡ true
-        → IsPlayed all.now.start reading.now.acts.items reading.now.numbers.items
+        → IsPlayed all.now.start (steps_of all.now.ways reading.now.acts.items)
+        reading.now.numbers.items
         → IsListed list.new reading.now.numbers.items) }
     ensures full { IfOk result (λ noted. noted ≡ false → limit ≤ length list.new) }
     ensures of { (old : List AnOutcome) → AreOf told.Printed all.now.start old list.old
         → AreOf told.Printed all.now.start old list.new }
     ensures most { length list.new ≤ max limit (length list.old) }
-    ensures each { IsPlayed all.now.start reading.now.acts.items reading.now.numbers.items
+    ensures each { IsPlayed all.now.start (steps_of all.now.ways reading.now.acts.items)
+        reading.now.numbers.items
         → IsAddedAs reading.now.numbers.items list.old list.new }
 {
-    let run = all.led(alloc, &reading.acts)?;
+    let ranks = all.steps(alloc, &reading.acts)?;
+    let run = all.led(alloc, &ranks)?;
     note(alloc, Order::Printed, list, &run, limit)
 }
 
@@ -54,15 +58,16 @@ fn note_readings(
     ensures distinct { AreDistinct list.old → AreDistinct list.new }
     ensures kept { KeepsListed list.old list.new }
     ensures listed { IfOk result (λ noted. noted ≡ true
-        → AreReadingsPut all.now.start found.now (length found.now) list.new) }
+        → AreReadingsPut all.now.start all.now.ways found.now (length found.now) list.new) }
     ensures full { IfOk result (λ noted. noted ≡ false → limit ≤ length list.new) }
     ensures of { AreOf told.Printed all.now.start list.old list.new }
     ensures most { length list.new ≤ max limit (length list.old) }
-    ensures rising { ArePlayedAll all.now.start found.now → AreRising found.now
+    ensures rising { ArePlayedAll all.now.start all.now.ways found.now → AreRising found.now
         → AreRisingFrom (length list.old) list.new }
-    ensures added { ArePlayedAll all.now.start found.now
+    ensures added { ArePlayedAll all.now.start all.now.ways found.now
         → AreAddedFrom found.now (length found.now) (length list.old) list.new }
-    ensures first { OnOk result (ArePlayedAll all.now.start found.now → AreRising found.now
+    ensures first { OnOk result (ArePlayedAll all.now.start all.now.ways found.now
+        → AreRising found.now
         → AreReadingsFirst found.now (length list.old) list.new) }
 {
     for reading in found {
@@ -84,7 +89,7 @@ fn list_readings(
     limit: usize,
 ) -> Result<bool, AllocError>
     requires { AreLinked (live_by all.now.like) all.now.start.module_run
-        all.now.all links.now }
+        all.now.ways all.now.all links.now }
     ensures of { AreOf told.Printed all.now.start list.old list.new }
     ensures kept { KeepsListed list.old list.new }
     ensures distinct { AreDistinct list.old → AreDistinct list.new }
@@ -111,7 +116,7 @@ pub fn list_found(
     limit: usize,
 ) -> Result<bool, AllocError>
     requires { AreLinked (live_by explored.now.found.like) explored.now.found.start.module_run
-        explored.now.found.all explored.now.links.items }
+        explored.now.found.ways explored.now.found.all explored.now.links.items }
     ensures of { AreOf order explored.now.found.start list.old list.new }
     ensures kept { KeepsListed list.old list.new }
     ensures distinct { AreDistinct list.old → AreDistinct list.new }

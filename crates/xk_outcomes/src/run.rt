@@ -90,13 +90,14 @@ impl<'m> Run<'m> {
         Ok(())
     }
 
-    /// Steps of these activities, the last of which stands first, and private steps behind each.
-    pub fn go_along(&mut self, mut way: Vec<Act>) -> Result<(), AllocError>
+    /// Steps of activities of these ranks, the last of which stands first, and private steps behind each.
+    pub fn go_along(&mut self, mut way: Vec<u32>) -> Result<(), AllocError>
         ensures to { OnOk result (self.new.to ≡ along way.items self.old.to) }
         ensures leads { OnOk result
             (LeadsOn self.old.schedule.items self.old.to self.new.schedule.items self.new.to) }
     {
-        while let Some(act) = way.pop() {
+        while let Some(rank) = way.pop() {
+            let act = act_of_rank(&self.to.core, rank);
             self.go_on(act)?;
         }
         Ok(())

@@ -1,13 +1,14 @@
 //! The search, in breadth: what stands before an index has been looked at, and what is new goes to the end.
 
-ghost use Rattle.std.specs.Prelude.{◌≡◌, ◌<◌, ◌≤◌, ℕ, true, false, length, slice_get, IfOk, OnOk, Some};
+ghost use Rattle.std.specs.Prelude.{◌≡◌, ◌<◌, ◌≤◌, ℕ, true, false, length, slice_get, IfOk, IfSome, OnOk, Some};
 ghost use Rattle.xk_types.specs.Schedule.{is_enabled};
 ghost use Rattle.xk_liveness.specs.Liveness.{IsLiveness};
 ghost use Rattle.xk_outcomes.specs.Alikeness.{live_by};
-ghost use Rattle.xk_outcomes.specs.Found.{FoundValue, first_found, next};
+ghost use Rattle.xk_outcomes.specs.Found.{FoundValue, first_found};
 ghost use Rattle.xk_outcomes.specs.Links.{AreLinked};
 ghost use Rattle.xk_outcomes.specs.Search.{AreAllFound, AreAtRest, AreDifferent, AreExpanded, AreFound};
-ghost use Rattle.xk_outcomes.specs.Search.{HasAfter, IsExpanded, IsGrown, is_tried};
+ghost use Rattle.xk_outcomes.specs.Search.{HasAfter, IsExpanded, IsGrown};
+ghost use Rattle.xk_outcomes.specs.Ways.{IsLone, IsOnlyTried, IsTrip, is_tried};
 
 use crate::entries::Entries;
 use crate::found::Found;
@@ -18,6 +19,9 @@ use xk_core::Core;
 use xk_rank_digests::rank_of;
 use xk_readings::Edge;
 use xk_types::Act;
+
+/// So many steps to which there is no choice are taken at most before what they lead to is kept.
+const LONGEST_WAY: u32 = 1_000;
 
 /// What was found, and whether that is all.
 #[derive(Drop)]
@@ -37,8 +41,8 @@ fn behind(before: &[i64], all: &[i64]) -> Option<i64>
     all.get(before.len()).copied()
 }
 
-/// Adds what a step of the activity leads to from here, the one of a number, if none like that is there yet; and the link to it. The
-/// number of the one that is.
+/// Adds what a way leads to from here, the one of a number, that begins with a step of the activity, if none like that is there yet; and
+/// the link to it. The number of the one that is.
 fn link_after(
     alloc: Global,
     all: &mut Entries<'_>,
@@ -46,56 +50,157 @@ fn link_after(
     number: usize,
     here: &Found<'_>,
     act: Act,
+    way: Vec<u32>,
     new: &Found<'_>,
 ) -> Result<usize, AllocError>
     requires there { slice_get all.old.all number ≡ Some here.now }
-    requires enabled { is_enabled here.now.core.module_run here.now.core.world act ≡ true }
-    requires after { new.now ≡ next act here.now }
+    requires trip { IsTrip here.now.core.module_run here.now act way.items new.now }
     ensures start { all.new.start ≡ all.old.start }
     ensures like { all.new.like ≡ all.old.like }
     ensures grown { IsGrown all.old.all all.new.all }
     ensures more { IsGrown links.old.items links.new.items }
     ensures linked { OnOk result (AreLinked (live_by all.old.like) here.now.core.module_run
-        all.old.all links.old.items → AreLinked (live_by all.new.like) here.now.core.module_run
-        all.new.all links.new.items) }
+        all.old.ways all.old.all links.old.items → AreLinked (live_by all.new.like)
+        here.now.core.module_run all.new.ways all.new.all links.new.items) }
     ensures after { OnOk result (HasAfter here.now.core.module_run all.new.like
         all.new.all links.new.items number here.now act) }
     ensures new { IfOk result (λ to. length all.old.all ≤ to
         → slice_get all.new.all to ≡ Some new.now) }
 {
-    // For the law that private steps print nothing: the module is accepted.
-    let _activities = here.core.activities();
     links.reserve(1)?;
     let printed = behind(&here.printed, &new.printed);
-    let rank = rank_of(&here.core, act);
-    let to = all.add(alloc, number, act, new)?;
+    let way = all.add_way(way)?;
+    let to = all.add(alloc, number, way, new)?;
     links.push_reserved(Edge {
         from: number,
-        act: rank,
+        act: way,
         printed,
         to,
     });
     Ok(to)
 }
 
-/// Adds what a step of the activity leads to from here, the one of a number, if it can take one and none like that is there yet; and
-/// the link to it.
+/// Who alone of these can take a step, if one alone can; or of all, if none is told.
+fn lone_among(core: &Core<'_>, members: &[bool]) -> Option<Act>
+    ensures { IfSome result (IsOnlyTried core.now.module_run core.now.world members.now) }
+{
+    let mut found = None;
+    for a in 0..core.activities() {
+        if is_tried(members, Act(a)) && core.enabled(Act(a)) {
+            if found.is_some() {
+                return None;
+            }
+            found = Some(Act(a));
+        }
+    }
+    found
+}
+
+/// Who alone is to be tried here, if there is no choice.
+fn lone_act(
+    alloc: Global,
+    footprints: &Footprints<'_>,
+    core: &Core<'_>,
+) -> Result<Option<Act>, AllocError>
+    requires { footprints.now.module_run ≡ core.now.module_run }
+    ensures { IfOk result (λ o. IfSome o (IsLone core.now.module_run core.now.world)) }
+{
+    match closed_set(alloc, footprints, core)? {
+        Some(set) => Ok(lone_among(core, set.members())),
+        None => Ok(lone_among(core, &[])),
+    }
+}
+
+/// A step more on the way, if there is no choice and nothing was printed on it. Whether there was one.
+fn go_further(
+    alloc: Global,
+    footprints: &Footprints<'_>,
+    before: usize,
+    way: &mut Vec<u32>,
+    to: &mut Found<'_>,
+) -> Result<bool, AllocError>
+    requires { footprints.now.module_run ≡ to.old.core.module_run }
+    ensures module { OnOk result (to.new.core.module_run ≡ to.old.core.module_run) }
+    ensures trip { OnOk result ((x : FoundValue) (a : ℕ) → length x.printed ≡ before
+        → x.core.module_run ≡ to.old.core.module_run
+        → IsTrip x.core.module_run x a way.old.items to.old
+        → IsTrip x.core.module_run x a way.new.items to.new) }
+{
+    if to.printed.len() > before {
+        return Ok(false);
+    }
+    match lone_act(alloc, footprints, &to.core)? {
+        Some(act) => {
+            // For the law that private steps print nothing: the module is accepted.
+            let _activities = to.core.activities();
+            way.push(rank_of(&to.core, act))?;
+            to.go_on(act)?;
+            Ok(true)
+        }
+        None => Ok(false),
+    }
+}
+
+/// Goes on as long as there is no choice and nothing was printed on the way, some steps at most.
+fn go_alone(
+    alloc: Global,
+    footprints: &Footprints<'_>,
+    before: usize,
+    way: &mut Vec<u32>,
+    to: &mut Found<'_>,
+) -> Result<(), AllocError>
+    requires { footprints.now.module_run ≡ to.old.core.module_run }
+    ensures { OnOk result ((x : FoundValue) (a : ℕ) → length x.printed ≡ before
+        → x.core.module_run ≡ to.old.core.module_run
+        → IsTrip x.core.module_run x a way.old.items to.old
+        → IsTrip x.core.module_run x a way.new.items to.new) }
+{
+    for turn in 0..LONGEST_WAY {
+        if !go_further(alloc, footprints, before, way, to)? {
+            return Ok(());
+        }
+    }
+    Ok(())
+}
+
+/// A step of the activity, which can take it: the way that begins with it, and where that leads.
+fn begin_way<'m>(
+    alloc: Global,
+    here: &Found<'m>,
+    act: Act,
+) -> Result<(Vec<u32>, Found<'m>), AllocError>
+    requires { is_enabled here.now.core.module_run here.now.core.world act ≡ true }
+    ensures { IfOk result
+        (λ r. IsTrip here.now.core.module_run here.now act r.0.items r.1) }
+{
+    // For the law that private steps print nothing: the module is accepted.
+    let _activities = here.core.activities();
+    let mut way = Vec::new(alloc);
+    way.push(rank_of(&here.core, act))?;
+    let to = here.after(alloc, act)?;
+    Ok((way, to))
+}
+
+/// Adds what a step of the activity leads to from here, the one of a number, if it can take one, and steps behind it to which there is no
+/// choice, if none like that is there yet; and the link to it.
 fn try_act<'m>(
     alloc: Global,
+    footprints: &Footprints<'_>,
     all: &mut Entries<'m>,
     links: &mut Vec<Edge>,
     number: usize,
     here: &Found<'m>,
     act: Act,
 ) -> Result<(), AllocError>
-    requires { slice_get all.old.all number ≡ Some here.now }
+    requires there { slice_get all.old.all number ≡ Some here.now }
+    requires footprints { footprints.now.module_run ≡ here.now.core.module_run }
     ensures start { all.new.start ≡ all.old.start }
     ensures like { all.new.like ≡ all.old.like }
     ensures grown { IsGrown all.old.all all.new.all }
     ensures more { IsGrown links.old.items links.new.items }
     ensures linked { OnOk result (AreLinked (live_by all.old.like) here.now.core.module_run
-        all.old.all links.old.items → AreLinked (live_by all.new.like) here.now.core.module_run
-        all.new.all links.new.items) }
+        all.old.ways all.old.all links.old.items → AreLinked (live_by all.new.like)
+        here.now.core.module_run all.new.ways all.new.all links.new.items) }
     ensures after { OnOk result (HasAfter here.now.core.module_run all.new.like
         all.new.all links.new.items number here.now act) }
 {
@@ -103,8 +208,9 @@ fn try_act<'m>(
         return Ok(());
     }
     let count = all.len();
-    let next = here.after(alloc, act)?;
-    let to = link_after(alloc, all, links, number, here, act, &next)?;
+    let (mut way, mut next) = begin_way(alloc, here, act)?;
+    go_alone(alloc, footprints, here.printed.len(), &mut way, &mut next)?;
+    let to = link_after(alloc, all, links, number, here, act, way, &next)?;
     if to < count {
         return Ok(());
     }
@@ -121,6 +227,7 @@ fn is_tried(members: &[bool], act: Act) -> bool
 /// The same if steps of the activity are tried.
 fn try_one<'m>(
     alloc: Global,
+    footprints: &Footprints<'_>,
     all: &mut Entries<'m>,
     links: &mut Vec<Edge>,
     number: usize,
@@ -128,14 +235,15 @@ fn try_one<'m>(
     members: &[bool],
     act: Act,
 ) -> Result<(), AllocError>
-    requires { slice_get all.old.all number ≡ Some here.now }
+    requires there { slice_get all.old.all number ≡ Some here.now }
+    requires footprints { footprints.now.module_run ≡ here.now.core.module_run }
     ensures start { all.new.start ≡ all.old.start }
     ensures like { all.new.like ≡ all.old.like }
     ensures grown { IsGrown all.old.all all.new.all }
     ensures more { IsGrown links.old.items links.new.items }
     ensures linked { OnOk result (AreLinked (live_by all.old.like) here.now.core.module_run
-        all.old.all links.old.items → AreLinked (live_by all.new.like) here.now.core.module_run
-        all.new.all links.new.items) }
+        all.old.ways all.old.all links.old.items → AreLinked (live_by all.new.like)
+        here.now.core.module_run all.new.ways all.new.all links.new.items) }
     ensures after { OnOk result (is_tried members.now act ≡ true
         → HasAfter here.now.core.module_run all.new.like
         all.new.all links.new.items number here.now act) }
@@ -143,32 +251,34 @@ fn try_one<'m>(
     if !is_tried(members, act) {
         return Ok(());
     }
-    try_act(alloc, all, links, number, here, act)
+    try_act(alloc, footprints, all, links, number, here, act)
 }
 
 /// Adds what the steps lead to from here, the one of a number, that are tried.
 fn look_by<'m>(
     alloc: Global,
+    footprints: &Footprints<'_>,
     all: &mut Entries<'m>,
     links: &mut Vec<Edge>,
     number: usize,
     here: &Found<'m>,
     members: &[bool],
 ) -> Result<(), AllocError>
-    requires { slice_get all.old.all number ≡ Some here.now }
+    requires there { slice_get all.old.all number ≡ Some here.now }
+    requires footprints { footprints.now.module_run ≡ here.now.core.module_run }
     ensures start { all.new.start ≡ all.old.start }
     ensures like { all.new.like ≡ all.old.like }
     ensures grown { IsGrown all.old.all all.new.all }
     ensures more { IsGrown links.old.items links.new.items }
     ensures linked { OnOk result (AreLinked (live_by all.old.like) here.now.core.module_run
-        all.old.all links.old.items → AreLinked (live_by all.new.like) here.now.core.module_run
-        all.new.all links.new.items) }
+        all.old.ways all.old.all links.old.items → AreLinked (live_by all.new.like)
+        here.now.core.module_run all.new.ways all.new.all links.new.items) }
     ensures after { OnOk result ((a : ℕ) → is_tried members.now a ≡ true
         → HasAfter here.now.core.module_run all.new.like
         all.new.all links.new.items number here.now a) }
 {
     for a in 0..here.core.activities() {
-        try_one(alloc, all, links, number, here, members, Act(a))?;
+        try_one(alloc, footprints, all, links, number, here, members, Act(a))?;
     }
     Ok(())
 }
@@ -189,14 +299,14 @@ fn look<'m>(
     ensures grown { IsGrown all.old.all all.new.all }
     ensures more { IsGrown links.old.items links.new.items }
     ensures linked { OnOk result (AreLinked (live_by all.old.like) here.now.core.module_run
-        all.old.all links.old.items → AreLinked (live_by all.new.like) here.now.core.module_run
-        all.new.all links.new.items) }
+        all.old.ways all.old.all links.old.items → AreLinked (live_by all.new.like)
+        here.now.core.module_run all.new.ways all.new.all links.new.items) }
     ensures expanded { OnOk result (IsExpanded here.now.core.module_run all.new.like
         all.new.all links.new.items number here.now) }
 {
     match closed_set(alloc, footprints, &here.core)? {
-        Some(set) => look_by(alloc, all, links, number, here, set.members()),
-        None => look_by(alloc, all, links, number, here, &[]),
+        Some(set) => look_by(alloc, footprints, all, links, number, here, set.members()),
+        None => look_by(alloc, footprints, all, links, number, here, &[]),
     }
 }
 
@@ -215,8 +325,8 @@ fn expand<'m>(
     ensures grown { IsGrown all.old.all all.new.all }
     ensures more { IsGrown links.old.items links.new.items }
     ensures linked { OnOk result (AreLinked (live_by all.old.like) all.old.start.module_run
-        all.old.all links.old.items → AreLinked (live_by all.new.like) all.old.start.module_run
-        all.new.all links.new.items) }
+        all.old.ways all.old.all links.old.items → AreLinked (live_by all.new.like)
+        all.old.start.module_run all.new.ways all.new.all links.new.items) }
     ensures expanded { OnOk result ((x : FoundValue) → slice_get all.old.all number ≡ Some x
         → IsExpanded all.old.start.module_run all.new.like
         all.new.all links.new.items number x) }
@@ -240,8 +350,8 @@ fn search<'m>(
     ensures like { all.new.like ≡ all.old.like }
     ensures grown { IsGrown all.old.all all.new.all }
     ensures linked { OnOk result (AreLinked (live_by all.old.like) all.old.start.module_run
-        all.old.all links.old.items → AreLinked (live_by all.new.like) all.old.start.module_run
-        all.new.all links.new.items) }
+        all.old.ways all.old.all links.old.items → AreLinked (live_by all.new.like)
+        all.old.start.module_run all.new.ways all.new.all links.new.items) }
     ensures expanded { IfOk result (λ complete. complete ≡ true
         → AreExpanded all.old.start.module_run all.new.like
         all.new.all links.new.items (length all.new.all)) }
@@ -268,7 +378,7 @@ pub fn explore<'m>(
     ensures found { IfOk result (λ r. AreFound start.entry r.found.all) }
     ensures linked { IfOk result
         (λ r. AreLinked (live_by r.found.like) start.entry.module_run
-        r.found.all r.links.items) }
+        r.found.ways r.found.all r.links.items) }
     ensures told { IfOk result (λ r. r.found.like.order ≡ order) }
     ensures liveness { IfOk result
         (λ r. IsLiveness start.entry.module_run (live_by r.found.like)) }

@@ -1,3 +1,4 @@
+pub mod Stepwise
 pub mod NumberLemmas
 pub mod RankDigestLemmas
 pub mod RootLemmas

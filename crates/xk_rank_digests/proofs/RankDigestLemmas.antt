@@ -12,7 +12,8 @@ use Rattle.xk_liveness.specs.Liveness.{SlotTable, live_activity}
 use Rattle.xk_ranks.specs.Ranks.{kept, governed_ranked, going, remains, AreAlikeByRank}
 use Rattle.xk_digests.specs.Digest.{with_activity, with_numbers}
 use Rattle.xk_digests.proofs.DigestLemmas.{alike_digests}
-use Rattle.xk_rank_digests.specs.RankDigest.{rank_digest, with_going, stepwise_digest}
+use Rattle.xk_rank_digests.specs.RankDigest.{rank_digest}
+use Rattle.xk_rank_digests.proofs.Stepwise.{with_going, stepwise_digest}
 
 pub stepwise : (live : SlotTable) (w : World) (numbers : List ℤ) → stepwise_digest live w numbers ≡ rank_digest live w numbers
 stepwise live w numbers = by (with_numbers (with_numbers 0 numbers) w.cells) w.activities

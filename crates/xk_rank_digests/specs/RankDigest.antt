@@ -1,17 +1,9 @@
 -- The digest of what is left of a world when those that have ended are left out. This project's own.
-use Rattle.std.specs.Prelude.{ℕ, ℤ, List, fold, if◌then◌else◌}
-use Rattle.xk_types.specs.World.{Activity, World, is_ended}
-use Rattle.xk_liveness.specs.Liveness.{SlotTable, live_activity}
+use Rattle.std.specs.Prelude.{ℕ, ℤ, List}
+use Rattle.xk_types.specs.World.{World}
+use Rattle.xk_liveness.specs.Liveness.{SlotTable}
 use Rattle.xk_ranks.specs.Ranks.{remains}
-use Rattle.xk_digests.specs.Digest.{with_activity, with_numbers, world_digest}
+use Rattle.xk_digests.specs.Digest.{world_digest}
 
 abbrev pub rank_digest : SlotTable → World → List ℤ → ℕ
 rank_digest live w numbers = world_digest live (remains w) numbers
-
--- the digest with an activity more, if it hasn't ended
-abbrev pub with_going : SlotTable → ℕ → Activity → ℕ
-with_going live digest x = if is_ended x.status then digest else with_activity digest (live_activity live x)
-
--- the same digest, activity by activity
-abbrev pub stepwise_digest : SlotTable → World → List ℤ → ℕ
-stepwise_digest live w numbers = fold (with_going live) (with_numbers (with_numbers 0 numbers) w.cells) w.activities

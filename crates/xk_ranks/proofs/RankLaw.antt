@@ -154,7 +154,7 @@ ended_remains w = each (kept (going w.activities) w.activities) ∙ by w.activit
     by [] = refl
     by (x ∷ xs) = one x xs (is_ended x.status) refl (by xs)
 
-rank_ends : (live : SlotTable) (w v : World) → AreAlikeByRank live w v → all_ended w ≡ all_ended v
+pub rank_ends : (live : SlotTable) (w v : World) → AreAlikeByRank live w v → all_ended w ≡ all_ended v
 rank_ends live w v same = sym (ended_remains w) ∙ live_ends live (remains w) (remains v) same ∙ ended_remains v
 
 -- ---- steps

@@ -5,8 +5,8 @@
 pub struct Edge {
     /// The node where it begins.
     pub from: usize,
-    /// Who takes it, by a number that the graph's maker chose: an activity's own, or its rank.
-    pub act: u32,
+    /// How it is taken, by a number that the graph's maker chose: of who takes it, or of a way.
+    pub act: usize,
     /// What it prints, if it prints a number.
     pub printed: Option<i64>,
     /// The node where it ends.

@@ -6,7 +6,7 @@ pub struct Reading {
     /// What is printed along the way.
     pub numbers: Vec<i64>,
     /// Who takes a step after whom.
-    pub acts: Vec<u32>,
+    pub acts: Vec<usize>,
 }
 
 /// Lists of numbers that can be read, and whether these are all.

@@ -19,7 +19,7 @@ how_many-requires-clause-within c =
     let links = c.args.explored.now.links.items in
     subst (λ l. IsWithin (graph l c.ends.result.now)) (sym c.deref.ensures.value)
     (subst (λ over. IsWithin (graph links over)) (sym c.ends.ensures)
-    (links_within (live_by x.like) x.start.module_run x.all links c.requires.linked))
+    (links_within (live_by x.like) x.start.module_run x.ways x.all links c.requires.linked))
 
 pub how_many-requires-clause-some : goal.how_many-requires-clause-some
 how_many-requires-clause-some c =

@@ -21,15 +21,16 @@ pub count_readings-requires-clause-linked : goal.count_readings-requires-clause-
 count_readings-requires-clause-linked c =
     let x = c.in_ok-explored.explored in
     let is = c.in_ok-explored.ensures in
-    subst (λ (s : CoreValue). AreLinked (live_by x.found.like) s.module_run x.found.all x.links.items) (sym is.begun) is.linked
+    subst (λ (s : CoreValue). AreLinked (live_by x.found.like) s.module_run x.found.ways x.found.all x.links.items) (sym is.begun) is.linked
 
 pub returns-then-read-clause-least : goal.returns-then-read-clause-least
 returns-then-read-clause-least c =
     let m = c.args.verified.now in
     let args = c.args.arguments.now in
     let x = c.in_ok-explored.explored in
-    let played = subst (λ (s : CoreValue). ArePlayed s x.found.all x.links.items) c.in_ok-explored.ensures.begun c.count_readings.ensures.played in
-    read_least m args x.found.all x.links.items played c.in_ok-read.read.count c.in_ok-read.ensures.least
+    let played = subst (λ (s : CoreValue). ArePlayed s x.found.ways x.found.all x.links.items) c.in_ok-explored.ensures.begun
+    c.count_readings.ensures.played in
+    read_least m args x.found.ways x.found.all x.links.items played c.in_ok-read.read.count c.in_ok-read.ensures.least
 
 pub returns-then-read-clause-exact : goal.returns-then-read-clause-exact
 returns-then-read-clause-exact c done =
@@ -37,16 +38,18 @@ returns-then-read-clause-exact c done =
     let args = c.args.arguments.now in
     let x = c.in_ok-explored.explored in
     let is = c.in_ok-explored.ensures in
-    let played = subst (λ (s : CoreValue). ArePlayed s x.found.all x.links.items) is.begun c.count_readings.ensures.played in
-    read_exact m args x.found.all x.links.items played (is.all c.if-explored.true) c.in_ok-read.read.count (c.in_ok-read.ensures.exact c.if-read.true)
+    let played = subst (λ (s : CoreValue). ArePlayed s x.found.ways x.found.all x.links.items) is.begun c.count_readings.ensures.played in
+    read_exact m args x.found.ways x.found.all x.links.items played (is.all c.if-explored.true) c.in_ok-read.read.count
+    (c.in_ok-read.ensures.exact c.if-read.true)
 
 pub returns-clause-least : goal.returns-clause-least
 returns-clause-least c =
     let m = c.args.verified.now in
     let args = c.args.arguments.now in
     let x = c.in_ok-explored.explored in
-    let played = subst (λ (s : CoreValue). ArePlayed s x.found.all x.links.items) c.in_ok-explored.ensures.begun c.count_readings.ensures.played in
-    let read = read_least m args x.found.all x.links.items played c.in_ok-read.read.count c.in_ok-read.ensures.least in
+    let played = subst (λ (s : CoreValue). ArePlayed s x.found.ways x.found.all x.links.items) c.in_ok-explored.ensures.begun
+    c.count_readings.ensures.played in
+    let read = read_least m args x.found.ways x.found.all x.links.items played c.in_ok-read.read.count c.in_ok-read.ensures.least in
     let is = c.in_ok-found.ensures in
     let list = c.in_ok-found.found.list.items in
     least_of false m args list c.count_of.result.count c.in_ok-read.read.count (printed_shown m args list is.shown) is.distinct read c.count_of.ensures.either

@@ -16,7 +16,7 @@ readings-requires-clause-within c =
     let all = c.args.all.now.all in
     let links = c.args.links.now in
     subst (λ over. IsWithin (graph links over)) (sym c.ends.ensures)
-    (links_within (live_by c.args.all.now.like) c.args.all.now.start.module_run all links c.requires)
+    (links_within (live_by c.args.all.now.like) c.args.all.now.start.module_run c.args.all.now.ways all links c.requires)
 
 pub returns-clause-read : goal.returns-clause-read
 returns-clause-read c done =
@@ -31,8 +31,9 @@ returns-clause-read c done =
           let whole = subst (λ over. AreAllListed (graph links over) found) c.ends.ensures (c.in_ok-found.ensures.all (sym w.result-is
           ∙ done)) in
           all_read all links found list whole
-          (readings_listed start all links found list (c.longest-longest.ensures.played links c.requires) shown
-          (subst (λ l. AreReadingsPut start l (length l) list) c.deref.ensures.value (c.in_ok-noted.ensures.listed w.if-noted.true)))
+          (readings_listed start c.args.all.now.ways all links found list (c.longest-longest.ensures.played links c.requires) shown
+          (subst (λ l. AreReadingsPut start c.args.all.now.ways l (length l) list) c.deref.ensures.value
+          (c.in_ok-noted.ensures.listed w.if-noted.true)))
       | else-noted w ↦ absurd (true≢false (sym done ∙ w.result-is ∙ w.if-noted.false))
     ]
 
@@ -48,8 +49,9 @@ returns-clause-limit c less =
           let many = c.in_ok-found.ensures.limit (sym w.result-is ∙ less) in
           let shown = subst (λ over. AreShown (graph links over) found) c.ends.ensures c.in_ok-found.ensures.shown in
           let most = readings_most found list c.in_ok-found.ensures.rising
-          (readings_listed start all links found list (c.longest-longest.ensures.played links c.requires) shown
-          (subst (λ l. AreReadingsPut start l (length l) list) c.deref.ensures.value (c.in_ok-noted.ensures.listed w.if-noted.true))) in
+          (readings_listed start c.args.all.now.ways all links found list (c.longest-longest.ensures.played links c.requires) shown
+          (subst (λ l. AreReadingsPut start c.args.all.now.ways l (length l) list) c.deref.ensures.value
+          (c.in_ok-noted.ensures.listed w.if-noted.true))) in
           omega (arith, many, most)
       | else-noted w ↦ c.in_ok-noted.ensures.full w.if-noted.false
     ]
@@ -64,10 +66,10 @@ returns-clause-order c =
     let from = length c.args.list.now in
     let shown = subst (λ over. AreShown (graph links over) found) c.ends.ensures c.in_ok-found.ensures.shown in
     let first = subst (λ over. AreFirst (graph links over) found) c.ends.ensures c.in_ok-found.ensures.first in
-    let played = played_all start all links found (c.longest-longest.ensures.played links c.requires) shown in
+    let played = played_all start c.args.all.now.ways all links found (c.longest-longest.ensures.played links c.requires) shown in
     let value = c.deref.ensures.value in
     let rises = c.in_ok-found.ensures.rising in
-    let played' = subst (ArePlayedAll start) (sym value) played in
+    let played' = subst (ArePlayedAll start c.args.all.now.ways) (sym value) played in
     let rises' = subst AreRising (sym value) rises in
     in_order all links found from list first
     (subst (λ l. AreAddedFrom l (length l) from list) value (c.note_readings.ensures.added played'))

@@ -28,7 +28,8 @@ loop-reading-preserved c =
       of = c.note_reading.ensures.of c.args.list.now c.loop-reading.invariant.of;
       kept = λ numbers listed. c.note_reading.ensures.kept numbers (c.loop-reading.invariant.kept numbers listed);
       distinct = λ distinct. c.note_reading.ensures.distinct (c.loop-reading.invariant.distinct distinct);
-      listed = readings_more c.args.all.now.start found at here c.loop-reading.list c.note_reading.new.list there c.note_reading.ensures.kept
+      listed = readings_more c.args.all.now.start c.args.all.now.ways found at here c.loop-reading.list c.note_reading.new.list there
+          c.note_reading.ensures.kept
           (c.in_ok-noted.ensures.listed c.if-not-noted.false) c.loop-reading.invariant.listed;
       added = λ played. added_more found at from here old new there (c.loop-reading.invariant.added played)
           (c.note_reading.ensures.each (played at here there));

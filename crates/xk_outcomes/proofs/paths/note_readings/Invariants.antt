@@ -13,8 +13,8 @@ invariant-loop-reading l = record {
   of : AreOf order.Printed l.all.start l.fn.list l.list;
   kept : KeepsListed l.fn.list l.list;
   distinct : AreDistinct l.fn.list → AreDistinct l.list;
-  listed : AreReadingsPut l.all.start l.found l.reading-index l.list;
-  added : ArePlayedAll l.all.start l.found → AreAddedFrom l.found l.reading-index (length l.fn.list) l.list;
-  rising : ArePlayedAll l.all.start l.found → AreRising l.found → AreRisingFrom (length l.fn.list) l.list;
+  listed : AreReadingsPut l.all.start l.all.ways l.found l.reading-index l.list;
+  added : ArePlayedAll l.all.start l.all.ways l.found → AreAddedFrom l.found l.reading-index (length l.fn.list) l.list;
+  rising : ArePlayedAll l.all.start l.all.ways l.found → AreRising l.found → AreRisingFrom (length l.fn.list) l.list;
   few : length l.list ≤ max l.limit (length l.fn.list);
 }

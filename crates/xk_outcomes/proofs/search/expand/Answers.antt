@@ -12,8 +12,10 @@ pub returns-clause-linked : goal.returns-clause-linked
 returns-clause-linked c =
     let same_module = (c.len-count.ensures.found c.args.number c.in_ok-here.here c.in_ok-here.ensures).1.module_is in
     on_ok_weaker c.look.result (λ linked before.
-    subst (λ (k : ModuleValue). AreLinked (live_by c.look.new.all.like) k c.look.new.all.all c.look.new.links.items) same_module
-    (linked (subst (λ (k : ModuleValue). AreLinked (live_by c.args.all.now.like) k c.args.all.now.all c.args.links.now.items) (sym same_module) before))) c.look.ensures.linked
+    subst (λ (k : ModuleValue). AreLinked (live_by c.look.new.all.like) k c.look.new.all.ways c.look.new.all.all c.look.new.links.items)
+    same_module
+    (linked (subst (λ (k : ModuleValue). AreLinked (live_by c.args.all.now.like) k c.args.all.now.ways c.args.all.now.all
+    c.args.links.now.items) (sym same_module) before))) c.look.ensures.linked
 
 pub look-requires-clause-footprints : goal.look-requires-clause-footprints
 look-requires-clause-footprints c = c.requires.footprints

@@ -29,8 +29,9 @@ returns-clause-linked c =
     let accepted = subst IsAccepted c.module-verified.ensures.same c.module-accepted.ensures.accepted in
     let silent = first_silent start limits accepted in
     let same_module = ap (λ (e : EntriesValue). e.start.module_run) c.in_ok-found.ensures.first in
-    subst (λ k. AreLinked (live_by c.search.new.all.like) k c.search.new.all.all c.search.new.links.items) same_module
-    (c.in_ok-complete.ensures.linked (linked_first (live_by c.in_ok-found.found.like) c.in_ok-found.found.start.module_run start c.in_ok-found.found.all c.new-links.result.items
+    subst (λ k. AreLinked (live_by c.search.new.all.like) k c.search.new.all.ways c.search.new.all.all c.search.new.links.items) same_module
+    (c.in_ok-complete.ensures.linked (linked_first (live_by c.in_ok-found.found.like) c.in_ok-found.found.start.module_run
+    c.in_ok-found.found.ways start c.in_ok-found.found.all c.new-links.result.items
     (ap (λ (e : EntriesValue). e.all) c.in_ok-found.ensures.first) c.new-links.ensures.items silent))
 
 pub returns-clause-begins : goal.returns-clause-begins

@@ -4,7 +4,7 @@ use Rattle.std.proofs.lemmas.Result.{on_ok_weaker}
 use Rattle.xk_core.specs.Core.{CoreValue}
 use Rattle.xk_closed_sets.specs.ClosedSets.{IsSparing, is_in}
 use Rattle.xk_outcomes.specs.Found.{FoundValue}
-use Rattle.xk_outcomes.specs.Search.{is_tried}
+use Rattle.xk_outcomes.specs.Ways.{is_tried}
 use Rattle.xk_outcomes.proofs.SearchLemmas.{tried}
 use Rattle.xk_outcomes.proofs.search.look.Goals as goal
 

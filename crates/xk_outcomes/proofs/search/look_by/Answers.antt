@@ -2,7 +2,8 @@ use Rattle.std.proofs.Common.{◌≡◌, ◌∙◌, ℕ, true, length, ap, arith
 use borrow.Author.Count.{below_more}
 use Rattle.xk_outcomes.specs.Alikeness.{Alikeness}
 use Rattle.xk_outcomes.specs.Found.{FoundValue}
-use Rattle.xk_outcomes.specs.Search.{HasAfter, is_tried}
+use Rattle.xk_outcomes.specs.Ways.{is_tried}
+use Rattle.xk_outcomes.specs.Search.{HasAfter}
 use Rattle.xk_outcomes.proofs.SearchLemmas.{after_grown, after_all}
 use Rattle.xk_outcomes.proofs.search.look_by.Goals as goal
 

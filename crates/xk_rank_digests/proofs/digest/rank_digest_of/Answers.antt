@@ -3,7 +3,7 @@ use Rattle.std.specs.Prelude.{fold}
 use Rattle.std.proofs.lemmas.List.{take_all}
 use Rattle.xk_live_slots.specs.LiveSlots.{live_of}
 use Rattle.xk_digests.specs.Digest.{with_numbers}
-use Rattle.xk_rank_digests.specs.RankDigest.{with_going}
+use Rattle.xk_rank_digests.proofs.Stepwise.{with_going}
 use Rattle.xk_rank_digests.proofs.RankDigestLemmas.{more_living, more_ended, stepwise}
 use Rattle.xk_rank_digests.proofs.digest.rank_digest_of.Goals as goal
 use Rattle.xk_rank_digests.proofs.digest.rank_digest_of.Goals.{then-is_living, else-is_living}

@@ -2,7 +2,7 @@ use Rattle.std.proofs.Common.{◌≡◌, take}
 use Rattle.std.specs.Prelude.{fold}
 use Rattle.xk_live_slots.specs.LiveSlots.{live_of}
 use Rattle.xk_digests.specs.Digest.{with_numbers}
-use Rattle.xk_rank_digests.specs.RankDigest.{with_going}
+use Rattle.xk_rank_digests.proofs.Stepwise.{with_going}
 use Rattle.xk_rank_digests.proofs.digest.rank_digest_of.Given as goal
 
 abbrev pub invariant-loop-a : goal.invariant-loop-a

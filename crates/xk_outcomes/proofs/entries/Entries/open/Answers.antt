@@ -6,9 +6,9 @@ use Rattle.xk_outcomes.proofs.EntriesLemmas.{alone, entries_first}
 use Rattle.xk_outcomes.proofs.entries.Entries.open.Goals as goal
 
 pub invariant_of-result : goal.invariant_of-result
-invariant_of-result c = entries_first _ _ _ _ _ _ c.requires
+invariant_of-result c = entries_first _ _ _ _ _ _ _ c.requires
     (subst (λ (m : ModuleValue). IsLiveness m (live_of c.in_ok-live.live)) (c.in_ok-live.ensures ∙ c.module.ensures.same) c.module-verified.ensures.liveness)
-    c.new.ensures.items
+    c.new-2.ensures.items
     (alone _ _ _ c.in_ok-put_first.ensures.digests c.new-digests.ensures)
     (alone _ _ _ c.in_ok-put_first.ensures.over c.new-over.ensures.items)
     (alone _ _ _ c.in_ok-put_first.ensures.checkpoints c.new-checkpoints.ensures.items)
