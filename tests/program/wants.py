@@ -109,7 +109,8 @@ def to_lanes(steps: int) -> int:
 
 
 def to_search(found: modules.Accepted, worlds: int, steps: int) -> int:
-    """What is known of worlds and of ways of one step from them, those that are looked at, and those that are kept whole."""
+    """What is known of worlds and of ways of one step from them, the worlds that are looked at, and those that are kept
+    whole."""
     return 90 * worlds + 118 * steps + 4 * to_run(found) + 100_000 * to_start(found)
 
 
