@@ -48,7 +48,7 @@ OVER_ANSWERS = "x10clock: --log would write over FILE or standard input"
 ASKED_INPUT = "x10clock: --order ask reads standard input, so FILE can't be -"
 # The order that a person is asked for.
 ASK = "ask"
-VERSION = "x10clock 1.4.0\n"
+VERSION = "x10clock 1.5.0\n"
 # The kit that proved the sources.
 PROVED = "proved with rattle-kit-13f logic dac8208d650f15bf\n"
 

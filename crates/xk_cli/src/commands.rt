@@ -15,10 +15,10 @@ use clap::Arg;
 use std::alloc::{AllocError, Global};
 
 /// What `-V` prints after the program's name.
-const VERSION: &str = "1.4.0";
+const VERSION: &str = "1.5.0";
 
 /// What `--version` prints there: the same, and on a line of its own the kit that proved these sources, as `rt version` names it.
-const VERSION_AND_KIT: &str = "1.4.0\nproved with rattle-kit-13f logic dac8208d650f15bf";
+const VERSION_AND_KIT: &str = "1.5.0\nproved with rattle-kit-13f logic dac8208d650f15bf";
 
 /// The program's command line, with its commands in the order in which help lists them.
 pub(crate) fn line<'a>(alloc: Global) -> Result<clap::Command<'a>, AllocError>

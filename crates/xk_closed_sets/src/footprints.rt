@@ -1,11 +1,14 @@
 //! What may still be carried out in a module.
 
-ghost use Rattle.std.specs.Prelude.{◌≡◌, IfOk, IfSome};
+ghost use Rattle.std.specs.Prelude.{◌≡◌, ℕ, IfOk, IfSome};
+ghost use Rattle.xk_types.specs.declared.instr.Instr.TheVariants as instr;
+ghost use Rattle.xk_ranks.specs.Reads.{TellsReads};
+ghost use Rattle.xk_closed_sets.specs.Footprint.{is_set};
 ghost use Rattle.xk_closed.specs.Footprints.{IsPhase, IsRest};
 ghost use Rattle.xk_closed_sets.specs.Footprints.{AreFootprints, phase_of, rest_of};
 ghost use Rattle.xk_closed_sets.specs.Places.{phase_in, rest_in};
 
-use crate::places::Row;
+use crate::places::{Row, reach_at};
 use crate::rules::are_closed;
 use crate::table::rows_of;
 use std::alloc::{AllocError, Global};
@@ -62,6 +65,7 @@ impl<'m> Footprints<'m> {
         // The tables have all that may be carried out.
         ensures rest { IsRest self.now.module_run (rest_of self.now) }
         ensures phase { IsPhase self.now.module_run (rest_of self.now) (phase_of self.now) }
+        ensures tells { TellsReads (rest_of self.now) }
     {
         self.verified
     }
@@ -72,5 +76,16 @@ impl<'m> Footprints<'m> {
             (phase_in rows.now)) }
     {
         if self.known { Some(&self.rows) } else { None }
+    }
+
+    /// The bits of the shared numbers that may be read from this place of a unit on.
+    #[tactic(auto, using(crate::proofs::ReadLemmas::all_read, crate::proofs::ReadLemmas::known_reads))]
+    pub(crate) fn reads_at(&self, unit: usize, place: usize) -> u64
+        ensures { (d s : ℕ) → is_set result s ≡ rest_of self.now unit place (instr.Get d s) }
+    {
+        if !self.known {
+            return u64::MAX;
+        }
+        reach_at(&self.rows, unit, place).rest.reads
     }
 }

@@ -10,8 +10,10 @@ mod growth;
 mod holding;
 mod instructions;
 mod places;
+mod reads;
 mod rules;
 mod table;
 
 pub use closed_sets::{ClosedSet, closed_set};
 pub use footprints::Footprints;
+pub use reads::numbers_read;

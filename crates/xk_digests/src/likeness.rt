@@ -1,6 +1,7 @@
-//! Whether worlds are alike where slots are live: whether they differ in dead slots, in what activities that have ended
-//! left behind, in numbers of steps and in phases at most.
+//! Whether worlds are alike where slots are live, but for shared numbers: whether they differ in these, in dead slots, in
+//! what activities that have ended left behind, in numbers of steps and in phases at most.
 
+ghost use Rattle.xk_closed.specs.Unread.{without_cells};
 ghost use Rattle.std.specs.Prelude.{◌≡◌, ◌<◌, length, map, IfOk};
 ghost use Rattle.std.specs.Bool.{Decides};
 ghost use Rattle.xk_activity.specs.Activities.{act_at};
@@ -100,31 +101,30 @@ fn are_same_clocks(core: &Core<'_>, other: &Core<'_>) -> bool
     true
 }
 
-/// Whether the other core has as many activities and clocks, the same shared numbers, and was given the same arguments.
-fn has_same_numbers(core: &Core<'_>, other: &Core<'_>) -> bool
+/// Whether the other core has as many activities and clocks, and was given the same arguments.
+fn has_as_many(core: &Core<'_>, other: &Core<'_>) -> bool
     ensures { Decides result
         ((length other.now.world.activities ≡ length core.now.world.activities)
         × (length other.now.world.clocks ≡ length core.now.world.clocks)
-        × (core.now.world.cells ≡ other.now.world.cells)
         × (core.now.world.arguments ≡ other.now.world.arguments)) }
 {
     core.activities() == other.activities()
         && core.clocks() == other.clocks()
-        && are_same_numbers(core.cells(), other.cells())
         && are_same_numbers(core.arguments(), other.arguments())
 }
 
-/// Whether the worlds of two cores are alike where slots are live: then what can happen from now on is the same. Err where memory was
-/// refused.
+/// Whether the worlds of two cores are alike where slots are live, but for shared numbers: then what can happen from now on is the same,
+/// if those shared numbers are that may still be read. Err where memory was refused.
 pub fn are_alike(
     live: &LiveSlots<'_>,
     core: &Core<'_>,
     other: &Core<'_>,
 ) -> Result<bool, AllocError>
     ensures { IfOk result (λ same. Decides same
-        (AreAlikeWhereLive (live_of live.now) core.now.world other.now.world)) }
+        (AreAlikeWhereLive (live_of live.now) (without_cells core.now.world)
+        (without_cells other.now.world))) }
 {
-    if !has_same_numbers(core, other) {
+    if !has_as_many(core, other) {
         return Ok(false);
     }
     if !are_same_clocks(core, other) {

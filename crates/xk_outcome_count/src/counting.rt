@@ -7,7 +7,7 @@ ghost use Rattle.xk_readings.specs.Beginnings.{HasMoreSets};
 ghost use Rattle.xk_readings.specs.Counts.{AreAsMany as AreReadAsMany, AreAtLeast as AreReadAtLeast};
 ghost use Rattle.xk_readings.specs.Counts.{most_counted};
 ghost use Rattle.xk_readings.specs.Graphs.{graph};
-ghost use Rattle.xk_outcomes.specs.Alikeness.{live_by};
+ghost use Rattle.xk_outcomes.specs.Alikeness.{counted};
 ghost use Rattle.xk_outcomes.specs.Found.{first_found};
 ghost use Rattle.xk_outcomes.specs.Links.{AreLinked, ends};
 ghost use Rattle.xk_outcomes.specs.Listing.{ArePlayed};
@@ -147,7 +147,7 @@ fn count_readings(
 ) -> Result<HowMany, AllocError>
     requires begins { slice_get explored.now.found.all 0
         ≡ Some (first_found explored.now.found.start) }
-    requires linked { AreLinked (live_by explored.now.found.like)
+    requires linked { AreLinked (counted explored.now.found.like)
         explored.now.found.start.module_run explored.now.found.ways explored.now.found.all
         explored.now.links.items }
     ensures played { ArePlayed explored.now.found.start explored.now.found.ways

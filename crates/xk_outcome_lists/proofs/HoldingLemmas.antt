@@ -30,8 +30,8 @@ far_of_all m args sets early limit list complete whole all less h = record {
   kept = record {
     schedules = h.kept.schedules;
     many = h.kept.many;
-    live = h.kept.live;
-    liveness = h.kept.liveness;
+    counts = h.kept.counts;
+    counting = h.kept.counting;
     apart = h.kept.apart;
     ends = λ few. ends_of_all sets m args h.kept.schedules list all;
   };

@@ -16,11 +16,13 @@ use Rattle.xk_law_commute.specs.Conflicts.{next_instruction}
 use Rattle.xk_law_commute.proofs.ChangeSquareLemmas.{found_of, same_step}
 use Rattle.xk_law_commute.proofs.QuietStepLaw.{enabled_step}
 use Rattle.xk_law_commute.proofs.StartSquareLemmas.{alive_of}
-use Rattle.xk_liveness.specs.Liveness.{IsLiveness, SlotTable}
+use Rattle.xk_ranks.specs.Reads.{Counting, IsCounting}
 use Rattle.xk_closed.specs.Futures.{is_private}
 use Rattle.xk_core.specs.Core.{CoreValue}
-use Rattle.xk_ranks.specs.Ranks.{AreReachedAlike, HaveOneRank, StandAlike, going, rank}
-use Rattle.xk_ranks.proofs.RankLaw.{go_by_rank, one_number, one_turned, stand_alike as stand_by_rank}
+use Rattle.xk_ranks.specs.Ranks.{HaveOneRank, StandAlike, going, rank}
+use Rattle.xk_ranks.specs.Reads.{AreReachedByReads}
+use Rattle.xk_ranks.proofs.RankLaw.{one_number, one_turned}
+use Rattle.xk_ranks.proofs.ReadLaw.{go_by_reads, stand_by_reads}
 use Rattle.xk_ranks.proofs.RankListLemmas.{IsMarked, rank_less}
 use Rattle.xk_ranks.proofs.RankStepLaw.{marked_alive}
 use Rattle.xk_rank_digests.proofs.NumberLemmas.{going_length, number_here, number_rank}
@@ -66,11 +68,11 @@ least_first passes (suc n) a h = by (least_first passes n a) (least passes n) (p
     by before None false e g = absurd (none-some a g)
 
 -- what is alike goes on alike, with all that is said here of it
-module _ (m : ModuleValue) (limits : IsWithinLimits m) (ok : IsAccepted m) (live : SlotTable) (liveness : IsLiveness m live) where
+module _ (m : ModuleValue) (limits : IsWithinLimits m) (ok : IsAccepted m) (counts : Counting) (counting : IsCounting m counts) where
   -- ---- steps
 
   abbrev Alike : World → World → Type 0
-  Alike w v = AreReachedAlike m live w v
+  Alike w v = AreReachedByReads m counts w v
 
   turned : (w v : World) → Alike w v → Alike v w
   turned w v same = record { first = same.second; second = same.first; alike = sym same.alike }
@@ -78,7 +80,7 @@ module _ (m : ModuleValue) (limits : IsWithinLimits m) (ok : IsAccepted m) (live
   go_alike : (w v u : World) (a : ℕ) (e : Event) → Alike w v → step m w a ≡ Stepped u e
       → (b : ℕ) × (z : World) × HaveOneRank w a v b × (step m v b ≡ Stepped z e) × Alike u z
   go_alike w v u a e same h =
-      let t = (go_by_rank m limits ok live liveness w v same.first same.second same.alike).steps u a e h in (
+      let t = (go_by_reads m limits ok counts counting w v same.first same.second same.alike).steps u a e h in (
         t.0,
         t.1,
         t.2,
@@ -87,10 +89,10 @@ module _ (m : ModuleValue) (limits : IsWithinLimits m) (ok : IsAccepted m) (live
       )
 
   pub ends_alike : (w v : World) → Alike w v → all_ended w ≡ all_ended v
-  ends_alike w v same = (go_by_rank m limits ok live liveness w v same.first same.second same.alike).ends
+  ends_alike w v same = (go_by_reads m limits ok counts counting w v same.first same.second same.alike).ends
 
   stand_alike : (w v : World) (a b : ℕ) → Alike w v → HaveOneRank w a v b → StandAlike m w a v b
-  stand_alike w v a b same one = stand_by_rank m limits ok live liveness w v same.first same.second same.alike a b one
+  stand_alike w v a b same one = stand_by_reads m limits ok counts counting w v same.first same.second same.alike a b one
 
   -- who has a rank at which a step can be taken there has it here
   one_of_rank : (w v : World) (r : ℕ) → Alike w v → is_enabled m w (act_of w r) ≡ true → HaveOneRank w (act_of w r) v (act_of v r)

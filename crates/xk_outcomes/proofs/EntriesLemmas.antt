@@ -7,10 +7,10 @@ use Rattle.std.proofs.lemmas.List.Sums.{fold_push}
 use Rattle.std.proofs.lemmas.Option.{get_or_from_slice_get, slice_get-get_or, none-some, same_Some, slice_get_within}
 use Rattle.xk_types.specs.Schedule.{all_ended}
 use Rattle.xk_core.specs.Core.{CoreValue}
-use Rattle.xk_liveness.specs.Liveness.{IsLiveness}
+use Rattle.xk_ranks.specs.Reads.{IsCounting}
 use Rattle.xk_outcomes.specs.declared.checkpoint.Checkpoint.{Checkpoint}
 use Rattle.xk_outcomes.specs.declared.entries.Edge.{Edge}
-use Rattle.xk_outcomes.specs.Alikeness.{Alikeness, live_by}
+use Rattle.xk_outcomes.specs.Alikeness.{Alikeness, counted}
 use Rattle.xk_outcomes.specs.Entries.{AreBehind, AreEntries, led_by, with_edge}
 use Rattle.xk_outcomes.specs.Found.{FoundValue, along, first_found, through}
 use Rattle.xk_outcomes.specs.Ways.{way_of}
@@ -177,7 +177,7 @@ entries_wider start like ways wider w edges digests over checkpoints one were =
     let many : length wider ≡ length ways + 1 = ap (λ (k : List (List ℕ)). length k) one ∙ length_push ways w in
     record {
       root = were.root;
-      liveness = were.liveness;
+      counting = were.counting;
       behind = λ k e at. let b = were.behind k e at in let known = b.1 in (b.0, omega (arith, many, known));
       digests_are = subst (λ all. AreDigests like all digests) same were.digests_are;
       over_are = were.over_are ∙ ap ends same;
@@ -196,14 +196,14 @@ pub alone : {X : Type 0} (list old : List X) (x : X) → list ≡ old ++ x ∷ [
 alone list old x more none = more ∙ ap (λ l. l ++ x ∷ []) none
 
 pub entries_first : (start : CoreValue) (like : Alikeness) (ways : List (List ℕ)) (edges : List Edge) (digests : List ℕ)
-    → (over : List Bool) (checkpoints : List Checkpoint) → start.world.steps ≡ 0 → IsLiveness start.module_run (live_by like) → edges ≡ []
+    → (over : List Bool) (checkpoints : List Checkpoint) → start.world.steps ≡ 0 → IsCounting start.module_run (counted like) → edges ≡ []
     → digests ≡ found_digest like (first_found start) ∷ []
     → over ≡ all_ended (first_found start).core.world ∷ [] → checkpoints ≡ record { number = 0; found = first_found start } ∷ []
     → AreEntries start like ways edges digests over checkpoints
-entries_first start like ways edges digests over checkpoints root liveness none digest ended kept =
+entries_first start like ways edges digests over checkpoints root counting none digest ended kept =
     subst (λ l. AreEntries start like ways l digests over checkpoints) (sym none) (record {
       root = root;
-      liveness = liveness;
+      counting = counting;
       behind = λ k e at. absurd (none-some e at);
       digests_are = digest;
       over_are = ended;
@@ -235,7 +235,7 @@ entries_push start like ways edges more digests longer over still checkpoints e 
     let grown = led_push ways start edges more e x new one there is in
     record {
       root = were.root;
-      liveness = were.liveness;
+      counting = were.counting;
       behind = λ k z at. by k z (place edges e k z (subst (λ (l : List Edge). slice_get l k ≡ Some z) one at));
       digests_are = digests_push like (led_by ways start edges) (led_by ways start more) digests longer new grown digest were.digests_are;
       over_are = ends_push (led_by ways start edges) (led_by ways start more) over still new grown ended were.over_are;

@@ -14,18 +14,18 @@ use Rattle.xk_types.specs.Step.{Stepped, step}
 use Rattle.xk_types.specs.Schedule.{IsReached, Through, run, all_ended, is_step, number_printed, printed}
 use Rattle.xk_law_schedules.proofs.ReachabilityLemmas.{first_step, opening_reached, reached_step, same_through}
 use Rattle.xk_law_commute.proofs.ChangeSquareLemmas.{same_step}
-use Rattle.xk_liveness.specs.Liveness.{IsLiveness, SlotTable}
+use Rattle.xk_ranks.specs.Reads.{Counting, IsCounting}
 use Rattle.xk_closed.specs.Futures.{alone}
 use Rattle.xk_closed.proofs.ClosedLaw.{Front, Goes, goes_same, printed_first, to_front}
 use Rattle.xk_core.specs.Core.{CoreValue}
-use Rattle.xk_ranks.specs.Ranks.{AreReachedAlike}
-use Rattle.xk_ranks.proofs.RankLaw.{by_rank}
+use Rattle.xk_ranks.specs.Reads.{AreReachedByReads, read_part}
+use Rattle.xk_ranks.proofs.ReadLaw.{by_reads}
 use Rattle.xk_rank_digests.proofs.RankLikenessLemmas.{told_by_rank}
 use Rattle.xk_readings.specs.declared.edge.Edge.{Edge}
 use Rattle.xk_outcomes.specs.declared.order.Order.{Order}
 use Rattle.xk_outcomes.specs.declared.order.Order.TheVariants as order
 use Rattle.xk_law_commute.proofs.ExplorationLaw.{nobody_steps}
-use Rattle.xk_outcomes.specs.Alikeness.{Alikeness, AreAsOne, AreOver, live_by}
+use Rattle.xk_outcomes.specs.Alikeness.{Alikeness, AreAsOne, AreOver, counted}
 use Rattle.xk_outcomes.specs.Found.{FoundValue, first_found, next}
 use Rattle.xk_outcomes.specs.Ways.{IsLone, LeadsAlone}
 use Rattle.xk_outcomes.specs.Links.{LeadTo, Leads}
@@ -158,13 +158,13 @@ over_goes m n w v numbers over g = by g.list g.long g.legal g.prints
 module _ (like : Alikeness) (start : CoreValue) (all : List FoundValue) (links : List Edge) (limits : IsWithinLimits start.module_run)
     (ok : IsAccepted start.module_run)
     (taken : AreArguments start.module_run start.world.arguments) (begins : start.world ≡ opening start.module_run start.world.arguments)
-    (liveness : IsLiveness start.module_run (live_by like)) (found : AreFound start all)
+    (counting : IsCounting start.module_run (counted like)) (found : AreFound start all)
     (closed : AreExpanded start.module_run like all links (length all)) (first : slice_get all 0 ≡ Some (first_found start)) where
   abbrev m : ModuleValue
   m = start.module_run
 
-  abbrev live : SlotTable
-  live = live_by like
+  abbrev counts : Counting
+  counts = counted like
 
   abbrev args : List ℤ
   args = start.world.arguments
@@ -189,10 +189,10 @@ module _ (like : Alikeness) (start : CoreValue) (all : List FoundValue) (links :
       → IsMet (before ++ rest)
 
   -- from a world from which the same can happen the rest goes on
-  goes_there : (n : ℕ) (w v : World) (rest : List ℤ) → IsReached m w → IsReached m v → AreAsOne live w v → Goes m n w rest → Goes m n v rest
+  goes_there : (n : ℕ) (w v : World) (rest : List ℤ) → IsReached m w → IsReached m v → AreAsOne counts w v → Goes m n w rest → Goes m n v rest
   goes_there n w v rest here there (inl told) g =
-      goes_same m (AreReachedAlike m live) (by_rank m limits ok live liveness) n w v rest here
-      (record { first = here; second = there; alike = told_by_rank live w v told }) g
+      goes_same m (AreReachedByReads m counts) (by_reads m limits ok counts counting) n w v rest here
+      (record { first = here; second = there; alike = told_by_rank counts.live (read_part counts.rest w) (read_part counts.rest v) told }) g
   goes_there n w v rest here there (inr over) g = over_goes m n w v rest over g
 
   -- a step, private steps behind it, and steps to which there is no choice lead to where the same can happen as from one of them

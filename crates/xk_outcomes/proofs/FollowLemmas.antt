@@ -13,9 +13,9 @@ use Rattle.xk_types.specs.Step.{Outcome, Blocked, Wrong, Stepped, step}
 use Rattle.xk_types.specs.Schedule.{IsReached, all_ended, is_enabled}
 use Rattle.xk_law_schedules.proofs.StepCountLemmas.{step_counts}
 use Rattle.xk_law_commute.proofs.QuietStepLaw.{enabled_step}
-use Rattle.xk_liveness.specs.Liveness.{IsLiveness, SlotTable}
+use Rattle.xk_ranks.specs.Reads.{Counting, IsCounting}
 use Rattle.xk_core.specs.Core.{CoreValue}
-use Rattle.xk_ranks.specs.Ranks.{AreReachedAlike}
+use Rattle.xk_ranks.specs.Reads.{AreReachedByReads}
 use Rattle.xk_law_commute.proofs.ExplorationLaw.{nobody_steps}
 use Rattle.xk_outcomes.specs.Alikeness.{AreAsOneByRank, AreOver}
 use Rattle.xk_readings.specs.declared.edge.Edge.{Edge}
@@ -47,9 +47,9 @@ told_there all k x there ended =
     slice_get-map over all k ∙ ap (option_map over) there ∙ ap Some ended
 
 -- each link leads from one of them to one of them
-pub links_within : (live : SlotTable) (m : ModuleValue) (ways : List (List ℕ)) (all : List FoundValue) (links : List Edge)
-    → AreLinked live m ways all links → IsWithin (graph links (ends all))
-links_within live m ways all links linked e there =
+pub links_within : (counts : Counting) (m : ModuleValue) (ways : List (List ℕ)) (all : List FoundValue) (links : List Edge)
+    → AreLinked counts m ways all links → IsWithin (graph links (ends all))
+links_within counts m ways all links linked e there =
     let l = linked.each there.0 e there.1 in
     let many = length-map all (λ (y : FoundValue). all_ended y.core.world) in
     let out = slice_get_within all e.from l.source l.out in
@@ -147,17 +147,17 @@ either (inl a) first second = first a
 either (inr b) first second = second b
 
 -- Where all have ended no link leads on: so what is read from there is read already.
-over_followed : (m : ModuleValue) (live : SlotTable) (ways : List (List ℕ)) (all : List FoundValue) (links : List Edge)
-    → AreLinked live m ways all links
+over_followed : (m : ModuleValue) (counts : Counting) (ways : List (List ℕ)) (all : List FoundValue) (links : List Edge)
+    → AreLinked counts m ways all links
     → (n k : ℕ) (acts : List ℕ) (numbers : List ℤ) (x y : FoundValue) → Reads (graph links (ends all)) n k acts numbers
     → slice_get all k ≡ Some x → AreOver y.core.world x.core.world → Follows n y (through (steps_of ways acts) y) numbers
-over_followed m live ways all links linked zero k acts numbers x y reads there over =
+over_followed m counts ways all links linked zero k acts numbers x y reads there over =
     subst (λ bs. Follows zero y (through (steps_of ways bs) y) numbers) (sym reads.1) (record {
       ended = over.0;
       prints = sym (append-nil y.printed) ∙ ap (λ ns. y.printed ++ ns) (sym reads.2);
       long = omega arith;
     })
-over_followed m live ways all links linked (suc n) k acts numbers x y reads there over =
+over_followed m counts ways all links linked (suc n) k acts numbers x y reads there over =
     let e = reads.0 in
     let l = linked.each reads.1.0 e reads.1.1 in
     let source : l.source ≡ x = same_Some l.source x (sym l.out ∙ (ap (slice_get all) reads.2 ∙ there)) in
@@ -171,38 +171,38 @@ over_followed m live ways all links linked (suc n) k acts numbers x y reads ther
         let taken = enabled_step (step m x.core.world (act_of x.core.world r)) goes.0 in
         nobody_steps m x.core.world taken.0 (act_of x.core.world r) taken.1 taken.2 over.1
 
-followed : (m : ModuleValue) (limits : IsWithinLimits m) (ok : IsAccepted m) (live : SlotTable) → IsLiveness m live
-    → (ways : List (List ℕ)) (all : List FoundValue) (links : List Edge) → AreLinked live m ways all links
+followed : (m : ModuleValue) (limits : IsWithinLimits m) (ok : IsAccepted m) (counts : Counting) → IsCounting m counts
+    → (ways : List (List ℕ)) (all : List FoundValue) (links : List Edge) → AreLinked counts m ways all links
     → ((k : ℕ) (x : FoundValue) → slice_get all k ≡ Some x → (x.core.module_run ≡ m) × IsReached m x.core.world)
     → (n k : ℕ) (acts : List ℕ) (numbers : List ℤ) (x y : FoundValue) → Reads (graph links (ends all)) n k acts numbers
     → slice_get all k ≡ Some x
-    → y.core.module_run ≡ m → AreReachedAlike m live y.core.world x.core.world → Follows n y (through (steps_of ways acts) y) numbers
-followed m limits ok live liveness ways all links linked runs zero k acts numbers x y reads there is same =
+    → y.core.module_run ≡ m → AreReachedByReads m counts y.core.world x.core.world → Follows n y (through (steps_of ways acts) y) numbers
+followed m limits ok counts counting ways all links linked runs zero k acts numbers x y reads there is same =
     subst (λ bs. Follows zero y (through (steps_of ways bs) y) numbers) (sym reads.1) (record {
-      ended = ends_alike m limits ok live liveness y.core.world x.core.world same ∙ ended_there all k x there reads.0;
+      ended = ends_alike m limits ok counts counting y.core.world x.core.world same ∙ ended_there all k x there reads.0;
       prints = sym (append-nil y.printed) ∙ ap (λ ns. y.printed ++ ns) (sym reads.2);
       long = omega arith;
     })
-followed m limits ok live liveness ways all links linked runs (suc n) k acts numbers x y reads there is same =
+followed m limits ok counts counting ways all links linked runs (suc n) k acts numbers x y reads there is same =
     let e = reads.0 in
     let way : List ℕ = way_of ways e.act in
     let l = linked.each reads.1.0 e reads.1.1 in
     let source : l.source ≡ x = same_Some l.source x (sym l.out ∙ (ap (slice_get all) reads.2 ∙ there)) in
     let is_way : IsWay m x way e.printed = subst (λ (z : FoundValue). IsWay m z way e.printed) source l.is_way in
-    let next : AreAsOneByRank live (through way x).core.world l.target.core.world =
-    subst (λ (z : FoundValue). AreAsOneByRank live (through way z).core.world l.target.core.world) source l.alike in
-    let t = through_alike m limits ok live liveness way y x is (runs k x there).0 same is_way.goes in
+    let next : AreAsOneByRank counts (through way x).core.world l.target.core.world =
+    subst (λ (z : FoundValue). AreAsOneByRank counts (through way z).core.world l.target.core.world) source l.alike in
+    let t = through_alike m limits ok counts counting way y x is (runs k x there).0 same is_way.goes in
     let g = t.0 in
     let more : g.more ≡ option_to_list e.printed = append_cancel_left x.printed g.more (option_to_list e.printed) (sym g.second_prints
     ∙ is_way.prints) in
     let goal : Type 0 = Follows n (through way y) (through (steps_of ways reads.3) (through way y)) reads.4 in
     let f = either {C = goal} next
-    (λ alike_next. followed m limits ok live liveness ways all links linked runs n e.to reads.3 reads.4 l.target (through way y) reads.5
+    (λ alike_next. followed m limits ok counts counting ways all links linked runs n e.to reads.3 reads.4 l.target (through way y) reads.5
     l.into
     g.first_module
     (record { first = g.alike.first; second = (runs e.to l.target l.into).1; alike = g.alike.alike ∙ alike_next }))
-    (λ over. over_followed m live ways all links linked n e.to reads.3 reads.4 l.target (through way y) reads.5 l.into
-    (ends_alike m limits ok live liveness (through way y).core.world (through way x).core.world g.alike ∙ over.0, over.1)) in
+    (λ over. over_followed m counts ways all links linked n e.to reads.3 reads.4 l.target (through way y) reads.5 l.into
+    (ends_alike m limits ok counts counting (through way y).core.world (through way x).core.world g.alike ∙ over.0, over.1)) in
     let counted = steps_through m way y is t.1 in
     let some = is_way.some in
     let long = f.long in
@@ -216,8 +216,8 @@ followed m limits ok live liveness ways all links linked runs (suc n) k acts num
 
 -- ---- where all that was found was found from a start
 
-module _ (start : CoreValue) (live : SlotTable) (liveness : IsLiveness start.module_run live) (ways : List (List ℕ))
-    (all : List FoundValue) (links : List Edge) (linked : AreLinked live start.module_run ways all links)
+module _ (start : CoreValue) (counts : Counting) (counting : IsCounting start.module_run counts) (ways : List (List ℕ))
+    (all : List FoundValue) (links : List Edge) (linked : AreLinked counts start.module_run ways all links)
     (found : (k : ℕ) (x : FoundValue) → slice_get all k ≡ Some x
     → IsFound start x) (first : slice_get all 0 ≡ Some (first_found start)) (limits : IsWithinLimits start.module_run)
     (ok : IsAccepted start.module_run)
@@ -226,7 +226,7 @@ module _ (start : CoreValue) (live : SlotTable) (liveness : IsLiveness start.mod
   pub read_follows : (n : ℕ) (acts : List ℕ) (numbers : List ℤ) → Reads (graph links (ends all)) n 0 acts numbers
       → Follows n (first_found start) (through (steps_of ways acts) (first_found start)) numbers
   read_follows n acts numbers reads =
-      followed start.module_run limits ok live liveness ways all links linked
+      followed start.module_run limits ok counts counting ways all links linked
       (λ k x there. ((found k x there).1.module_is, found_reached start limits ok taken begins x (found k x there)))
       n 0 acts numbers (first_found start) (first_found start) reads first (first_is_found start).1.module_is
       (let here = found_reached start limits ok taken begins (first_found start) (first_is_found start) in

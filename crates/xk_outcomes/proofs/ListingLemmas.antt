@@ -9,7 +9,7 @@ use Rattle.xk_types.specs.World.{opening}
 use Rattle.xk_types.specs.Schedule.{run, all_ended, printed}
 use Rattle.xk_types.specs.Logs.{schedule_of}
 use Rattle.xk_law_schedules.proofs.ReachabilityLemmas.{same_through}
-use Rattle.xk_liveness.specs.Liveness.{IsLiveness, SlotTable}
+use Rattle.xk_ranks.specs.Reads.{Counting, IsCounting}
 use Rattle.xk_outcomes.proofs.SearchLemmas.{as_one_turned}
 use Rattle.xk_core.specs.Core.{CoreValue, opening_core}
 use Rattle.xk_readings.specs.declared.edge.Edge.{Edge}
@@ -18,7 +18,7 @@ use Rattle.xk_outcomes.specs.declared.listing.Outcome.{Outcome}
 use Rattle.xk_outcomes.specs.declared.order.Order.{Order}
 use Rattle.xk_outcomes.specs.declared.order.Order.TheVariants as order
 use Rattle.xk_outcomes.specs.Links.{AreLinked}
-use Rattle.xk_outcomes.specs.Alikeness.{Alikeness, AreAsOne, live_by}
+use Rattle.xk_outcomes.specs.Alikeness.{Alikeness, AreAsOne, counted}
 use Rattle.xk_outcomes.specs.Search.{AreFound, AreAllFound, AreAtRest, AreDifferent, IsFoundBy}
 use Rattle.xk_outcomes.specs.Rising.{key, ordered, rising}
 use Rattle.xk_outcomes.specs.Listing.{IsOf, AreApartIn, AreMet, AreOf, AreNoted}
@@ -153,7 +153,7 @@ scheduled start (x ∷ all) found (suc k) p h = scheduled start all (λ j. found
 -- each that was found has a schedule and is at rest, and no two have the same world and numbers
 all_apart : (order : Order) (like : Alikeness) → like.order ≡ order → (m : ModuleValue) (args : List ℤ) (all : List FoundValue)
     → (found : AreFound (opening_core m args) all) → AreAtRest all → AreDifferent like all
-    → AreApartIn (live_by like) order m args (schedules (opening_core m args) all found)
+    → AreApartIn (counted like) order m args (schedules (opening_core m args) all found)
 all_apart order like told m args all found rest different = record {
   legal = λ k p there.
       let x = scheduled (opening_core m args) all found k p there in (
@@ -166,19 +166,19 @@ all_apart order like told m args all found rest different = record {
       let y = scheduled (opening_core m args) all found j q hj in
       let to_w : w ≡ x.0.core.world = same_through w x.0.core.world (sym lead_w ∙ x.2.legal) in
       let to_v : v ≡ y.0.core.world = same_through v y.0.core.world (sym lead_v ∙ y.2.legal) in
-      let worlds : AreAsOne (live_by like) y.0.core.world x.0.core.world =
-      as_one_turned (live_by like) x.0.core.world y.0.core.world
-      (subst (AreAsOne (live_by like) x.0.core.world) to_v (subst (λ z. AreAsOne (live_by like) z v) to_w alike)) in
+      let worlds : AreAsOne (counted like) y.0.core.world x.0.core.world =
+      as_one_turned (counted like) x.0.core.world y.0.core.world
+      (subst (AreAsOne (counted like) x.0.core.world) to_v (subst (λ z. AreAsOne (counted like) z v) to_w alike)) in
       let numbers : key order x.0.printed ≡ key order y.0.printed =
       ap (key order) (sym x.2.prints) ∙ same ∙ ap (key order) y.2.prints in
       different i j x.0 y.0 x.1 y.1 (worlds, subst (λ o. key o x.0.printed ≡ key o y.0.printed) (sym told) numbers);
 }
 
 -- where whatever stands along links is listed, what the ones print is in which all have ended
-ends_listed : (order : Order) (live : SlotTable) (m : ModuleValue) (args : List ℤ) (ways : List (List ℕ)) (all : List FoundValue)
-    → (links : List Edge) (list : List Outcome) (found : AreFound (opening_core m args) all) → AreLinked live m ways all links
+ends_listed : (order : Order) (counts : Counting) (m : ModuleValue) (args : List ℤ) (ways : List (List ℕ)) (all : List FoundValue)
+    → (links : List Edge) (list : List Outcome) (found : AreFound (opening_core m args) all) → AreLinked counts m ways all links
     → AreMet order all links list → AreEndsListedIn order m args (schedules (opening_core m args) all found) list
-ends_listed order live m args ways all links list found linked met k p numbers there o =
+ends_listed order counts m args ways all links list found linked met k p numbers there o =
     let x = scheduled (opening_core m args) all found k p there in
     let same : o.last ≡ x.0.core.world = same_through o.last x.0.core.world (sym o.legal ∙ x.2.legal) in
     let prints : x.0.printed ≡ numbers = sym x.2.prints ∙ o.prints in
@@ -193,16 +193,16 @@ met_unless false P limit n is full less = absurd (omega (arith, full refl, less)
 pub all_kept : (order : Order) (like : Alikeness) → like.order ≡ order
     → (m : ModuleValue) (args : List ℤ) (limit : ℕ) (ways : List (List ℕ)) (all : List FoundValue) (links : List Edge)
     → (list : List Outcome) (whole : Bool)
-    → AreFound (opening_core m args) all → AreLinked (live_by like) m ways all links → IsLiveness m (live_by like)
+    → AreFound (opening_core m args) all → AreLinked (counted like) m ways all links → IsCounting m (counted like)
     → AreAtRest all → AreDifferent like all → (whole ≡ true → AreMet order all links list) → (whole ≡ false → limit ≤ length list)
     → HasKeptIn order m args limit list (length all)
-all_kept order like told m args limit ways all links list whole found linked liveness rest different met full = record {
+all_kept order like told m args limit ways all links list whole found linked counting rest different met full = record {
   schedules = schedules (opening_core m args) all found;
   many = many_schedules (opening_core m args) all found;
-  live = live_by like;
-  liveness = liveness;
+  counts = counted like;
+  counting = counting;
   apart = all_apart order like told m args all found rest different;
-  ends = λ less. ends_listed order (live_by like) m args ways all links list found linked
+  ends = λ less. ends_listed order (counted like) m args ways all links list found linked
       (met_unless whole (AreMet order all links list) limit (length list) met full less);
 }
 
@@ -235,8 +235,8 @@ pub printed_kept : (m : ModuleValue) (args : List ℤ) (limit : ℕ) (list : Lis
 printed_kept m args limit list entries kept = record {
   schedules = kept.schedules;
   many = kept.many;
-  live = kept.live;
-  liveness = kept.liveness;
+  counts = kept.counts;
+  counting = kept.counting;
   apart = record {
     legal = kept.apart.legal;
     apart = λ i j p q w v hi hj lead_w lead_v alike. kept.apart.apart i j p q w v hi hj lead_w lead_v alike refl;
@@ -250,8 +250,8 @@ pub sets_kept : (m : ModuleValue) (args : List ℤ) (limit : ℕ) (list : List O
 sets_kept m args limit list entries kept = record {
   schedules = kept.schedules;
   many = kept.many;
-  live = kept.live;
-  liveness = kept.liveness;
+  counts = kept.counts;
+  counting = kept.counting;
   apart = record {
     legal = kept.apart.legal;
     apart = λ i j p q w v hi hj lead_w lead_v alike same.

@@ -16,6 +16,7 @@ use Rattle.xk_scheduler.specs.Choosers.{Follows}
 use Rattle.xk_scheduler.specs.WholeRuns.{IsLogThat, IsRunThat}
 use Rattle.xk_scheduler.proofs.UnloggedRunLemmas.{follows_any, run_weaker}
 use Rattle.xk_races.specs.Races.{gap_in, is_race_free, sights_of_run}
+use Rattle.xk_ranks.specs.Reads.{IsCounting}
 use Rattle.xk_outcomes.specs.declared.listing.Outcome.{Outcome}
 use Rattle.xk_outcomes.specs.declared.order.Order.{Order}
 use Rattle.xk_outcomes.specs.declared.order.Order.TheVariants as order
@@ -103,12 +104,26 @@ alone_distinct o zero zero x y hi hj same = refl
 alone_distinct o zero (suc j) x y hi hj same = absurd (none-some y hj)
 alone_distinct o (suc i) j x y hi hj same = absurd (none-some x hi)
 
+-- tables that have everything
+all_counting : (m : ModuleValue) → IsCounting m (record { live = λ u p s. true; rest = λ u p j. true })
+all_counting m = record {
+  liveness = λ f i s here h. refl;
+  rests = record {
+    own = λ f i e. refl;
+    on = λ u p j h. refl;
+    goes = λ f i j q e behind h. refl;
+    calls = λ f t args j e h. refl;
+    starts = λ f t args j e h. refl;
+  };
+  tells = λ u p d s. refl;
+}
+
 pub none_kept : (order : Order) (m : ModuleValue) (args : List ℤ) (limit : ℕ) (list : List Outcome) → HasKeptIn order m args limit list 0
 none_kept order m args limit list = record {
   schedules = [];
   many = refl;
-  live = λ u p s. true;
-  liveness = λ f i s here h. refl;
+  counts = record { live = λ u p s. true; rest = λ u p j. true };
+  counting = all_counting m;
   apart = record {
     legal = λ k p there. absurd (none-some p there);
     apart = λ i j p q w v here there to_w to_v alike same. absurd (none-some p here);

@@ -9,7 +9,7 @@ use Rattle.xk_readings.specs.declared.edge.Edge.{Edge}
 use Rattle.xk_readings.specs.declared.listing.Reading.{Reading}
 use Rattle.xk_readings.specs.Graphs.{graph}
 use Rattle.xk_readings.specs.Readings.{AreAllListed, AreShown}
-use Rattle.xk_liveness.specs.Liveness.{IsLiveness, SlotTable}
+use Rattle.xk_ranks.specs.Reads.{Counting, IsCounting}
 use Rattle.xk_outcomes.specs.declared.listing.Outcome.{Outcome}
 use Rattle.xk_outcomes.specs.declared.order.Order.TheVariants as order
 use Rattle.xk_outcomes.specs.Found.{FoundValue, first_found}
@@ -58,13 +58,13 @@ all_read all links found list whole listed n acts numbers reads =
     subst (IsListed list) h.3 (listed h.0 h.1 h.2)
 
 -- whatever can be read is played by its steps
-pub played : (start : CoreValue) (live : SlotTable) → IsLiveness start.module_run live → (ways : List (List ℕ)) (all : List FoundValue)
-    → (links : List Edge) → AreLinked live start.module_run ways all links → AreFound start all
+pub played : (start : CoreValue) (counts : Counting) → IsCounting start.module_run counts → (ways : List (List ℕ)) (all : List FoundValue)
+    → (links : List Edge) → AreLinked counts start.module_run ways all links → AreFound start all
     → slice_get all 0 ≡ Some (first_found start) → IsWithinLimits start.module_run → IsAccepted start.module_run
     → AreArguments start.module_run start.world.arguments → start.world ≡ opening start.module_run start.world.arguments
     → ArePlayed start ways all links
-played start live liveness ways all links linked found first limits ok taken begins n acts numbers reads =
-    let f = read_follows start live liveness ways all links linked found first limits ok taken begins n acts numbers reads in
+played start counts counting ways all links linked found first limits ok taken begins n acts numbers reads =
+    let f = read_follows start counts counting ways all links linked found first limits ok taken begins n acts numbers reads in
     record {
       ended = f.ended;
       prints = f.prints ∙ ap (λ ns. ns ++ numbers) (first_silent start limits ok);

@@ -13,7 +13,7 @@ use Rattle.xk_types.specs.Schedule.{Through, run, all_ended, number_printed, pri
 use Rattle.xk_law_schedules.proofs.ReachabilityLemmas.{same_through, first_step}
 use Rattle.xk_law_commute.proofs.ChangeSquareLemmas.{found_of}
 use Rattle.xk_law_commute.proofs.QuietStepLaw.{enabled_step}
-use Rattle.xk_liveness.specs.Liveness.{SlotTable}
+use Rattle.xk_ranks.specs.Reads.{Counting, read_part}
 use Rattle.xk_digests.specs.Digest.{with_numbers}
 use Rattle.xk_ranks.proofs.RankLaw.{rank_ends}
 use Rattle.xk_closed_sets.specs.ClosedSets.{is_in}
@@ -24,7 +24,7 @@ use Rattle.xk_rank_digests.proofs.RankLikenessLemmas.{told_by_rank, told_turned}
 use Rattle.xk_types.proofs.ListLemmas.{get-append_left as stays, get_inside as there_is, get_push as at_end}
 use Rattle.xk_readings.proofs.ListLemmas.{place}
 use Rattle.xk_closed.proofs.ClosedLaw.{printed_first}
-use Rattle.xk_outcomes.specs.Alikeness.{Alikeness, AreAsOne, AreAsOneByRank, live_by}
+use Rattle.xk_outcomes.specs.Alikeness.{Alikeness, AreAsOne, AreAsOneByRank, counted}
 use Rattle.xk_core.specs.Core.{CoreValue}
 use Rattle.xk_outcomes.specs.Found.{FoundValue, first_found, through}
 use Rattle.xk_outcomes.specs.Ways.{IsWay, is_tried, way_of}
@@ -103,13 +103,13 @@ added_grown like old new x k (inl h) = grown_same old new h.0
 added_grown like old new x k (inr h) = grown_push old new x h.0
 
 -- worlds that go on as one do so the other way round, and by rank
-pub as_one_turned : (live : SlotTable) (w v : World) → AreAsOne live w v → AreAsOne live v w
-as_one_turned live w v (inl alike) = inl (told_turned live w v alike)
-as_one_turned live w v (inr over) = inr (over.1, over.0)
+pub as_one_turned : (counts : Counting) (w v : World) → AreAsOne counts w v → AreAsOne counts v w
+as_one_turned counts w v (inl alike) = inl (told_turned counts.live (read_part counts.rest w) (read_part counts.rest v) alike)
+as_one_turned counts w v (inr over) = inr (over.1, over.0)
 
-as_one_by_rank : (live : SlotTable) (w v : World) → AreAsOne live w v → AreAsOneByRank live w v
-as_one_by_rank live w v (inl alike) = inl (told_by_rank live w v alike)
-as_one_by_rank live w v (inr over) = inr over
+as_one_by_rank : (counts : Counting) (w v : World) → AreAsOne counts w v → AreAsOneByRank counts w v
+as_one_by_rank counts w v (inl alike) = inl (told_by_rank counts.live (read_part counts.rest w) (read_part counts.rest v) alike)
+as_one_by_rank counts w v (inr over) = inr over
 
 -- a way of a number is the same with one more behind it
 pub way_wider : (ways wider : List (List ℕ)) (w : List ℕ) (k : ℕ) → wider ≡ ways ++ w ∷ [] → k < length ways
@@ -117,12 +117,12 @@ pub way_wider : (ways wider : List (List ℕ)) (w : List ℕ) (k : ℕ) → wide
 way_wider ways wider w k one within = ap (λ (l : List (List ℕ)). way_of l k) one ∙ get_or_append_left ways (w ∷ []) [] k within
 
 -- links stay such with a way more
-pub linked_wider : (live : SlotTable) (m : ModuleValue) (ways wider : List (List ℕ)) (w : List ℕ) (all : List FoundValue)
+pub linked_wider : (counts : Counting) (m : ModuleValue) (ways wider : List (List ℕ)) (w : List ℕ) (all : List FoundValue)
     → (links : List Edge)
-    → wider ≡ ways ++ w ∷ [] → AreLinked live m ways all links → AreLinked live m wider all links
-linked_wider live m ways wider w all links one linked = record { each = λ j l there. by l (linked.each j l there); led = linked.led }
+    → wider ≡ ways ++ w ∷ [] → AreLinked counts m ways all links → AreLinked counts m wider all links
+linked_wider counts m ways wider w all links one linked = record { each = λ j l there. by l (linked.each j l there); led = linked.led }
   where
-    by : (l : Edge) → IsLink live m ways all l → IsLink live m wider all l
+    by : (l : Edge) → IsLink counts m ways all l → IsLink counts m wider all l
     by l h =
         let same : way_of ways l.act ≡ way_of wider l.act = sym (way_wider ways wider w l.act one h.known) in
         let many : length wider ≡ length ways + 1 = ap (λ (k : List (List ℕ)). length k) one ∙ length_push ways w in
@@ -134,15 +134,15 @@ linked_wider live m ways wider w all links one linked = record { each = λ j l t
           into = h.into;
           known = omega (arith, many, known);
           is_way = subst (λ way. IsWay m h.source way l.printed) same h.is_way;
-          alike = subst (λ way. AreAsOneByRank live (through way h.source).core.world h.target.core.world) same h.alike;
+          alike = subst (λ way. AreAsOneByRank counts (through way h.source).core.world h.target.core.world) same h.alike;
         }
 
 -- Where those that were found were linked, they are with one more, and the link to it.
 pub linked_push : (m : ModuleValue) (like : Alikeness) (ways : List (List ℕ)) (old new : List FoundValue) (links more : List Edge)
     → (l : Edge)
-    → (x y : FoundValue) → AreLinked (live_by like) m ways old links
+    → (x y : FoundValue) → AreLinked (counted like) m ways old links
     → slice_get old l.from ≡ Some x → l.act < length ways → y ≡ through (way_of ways l.act) x → IsWay m x (way_of ways l.act) l.printed
-    → IsAdded like old new y l.to → more ≡ links ++ l ∷ [] → AreLinked (live_by like) m ways new more
+    → IsAdded like old new y l.to → more ≡ links ++ l ∷ [] → AreLinked (counted like) m ways new more
 linked_push m like ways old new links more l x y linked out known is is_way added one = record {
   each = λ j z there. by_link j z (place links l j z (subst (λ (e : List Edge). slice_get e j ≡ Some z) one there));
   led = λ k z there. by_one added k z there;
@@ -155,7 +155,7 @@ linked_push m like ways old new links more l x y linked out known is is_way adde
     longer_links = grown_push links more l one
 
     -- the new link
-    this : IsLink (live_by like) m ways new l
+    this : IsLink (counted like) m ways new l
     this =
         let t = added_there like old new y l.to added in
         record {
@@ -165,11 +165,11 @@ linked_push m like ways old new links more l x y linked out known is is_way adde
           into = t.1;
           known = known;
           is_way = is_way;
-          alike = subst (λ (z : FoundValue). AreAsOneByRank (live_by like) z.core.world t.0.core.world) is
-              (as_one_by_rank (live_by like) y.core.world t.0.core.world t.2.0);
+          alike = subst (λ (z : FoundValue). AreAsOneByRank (counted like) z.core.world t.0.core.world) is
+              (as_one_by_rank (counted like) y.core.world t.0.core.world t.2.0);
         }
 
-    by_link : (j : ℕ) (z : Edge) → (slice_get links j ≡ Some z) ⊎ ((j ≡ length links) × (l ≡ z)) → IsLink (live_by like) m ways new z
+    by_link : (j : ℕ) (z : Edge) → (slice_get links j ≡ Some z) ⊎ ((j ≡ length links) × (l ≡ z)) → IsLink (counted like) m ways new z
     by_link j z (inl a) =
         let h = linked.each j z a in
         record {
@@ -181,7 +181,7 @@ linked_push m like ways old new links more l x y linked out known is is_way adde
           is_way = h.is_way;
           alike = h.alike;
         }
-    by_link j z (inr b) = subst (IsLink (live_by like) m ways new) b.1 this
+    by_link j z (inr b) = subst (IsLink (counted like) m ways new) b.1 this
 
     was_led : (k : ℕ) (z : FoundValue) → slice_get old k ≡ Some z → LeadTo more k z.printed
     was_led k z there = let h = linked.led k z there in (h.0, h.1, leads_grown links more longer_links h.0 k h.1 z.printed h.2)
@@ -217,11 +217,11 @@ pub added_link : (links more : List Edge) (l : Edge) → more ≡ links ++ l ∷
 added_link links more l one = (length links, l, subst (λ (e : List Edge). slice_get e (length links) ≡ Some l) (sym one) (at_end links l), refl, refl, refl)
 
 -- the first one alone is linked, by no link
-pub linked_first : (live : SlotTable) (m : ModuleValue) (ways : List (List ℕ)) (start : CoreValue) (all : List FoundValue)
+pub linked_first : (counts : Counting) (m : ModuleValue) (ways : List (List ℕ)) (start : CoreValue) (all : List FoundValue)
     → (links : List Edge)
     → all ≡ first_found start ∷ [] → links ≡ []
-    → (first_found start).printed ≡ [] → AreLinked live m ways all links
-linked_first live m ways start all links one none silent = record {
+    → (first_found start).printed ≡ [] → AreLinked counts m ways all links
+linked_first counts m ways start all links one none silent = record {
   each = λ j l there. absurd (none-some l (subst (λ (e : List Edge). slice_get e j ≡ Some l) none there));
   led = λ k x there. by k x (subst (λ (e : List FoundValue). slice_get e k ≡ Some x) one there);
 }
@@ -296,20 +296,23 @@ same_digests like x new at = by at.0 (all_ended x.core.world) (all_ended new.cor
   where
     told : (b : Bool) (y : FoundValue) → ℕ
     told b y = if b then with_numbers 0 (key like.order y.printed)
-        else rank_digest (live_by like) y.core.world (key like.order y.printed)
+        else rank_digest (counted like).live (read_part (counted like).rest y.core.world) (key like.order y.printed)
 
-    by : AreAsOne (live_by like) new.core.world x.core.world → (b c : Bool) → all_ended x.core.world ≡ b → all_ended new.core.world ≡ c
+    part : World → World
+    part = read_part (counted like).rest
+
+    by : AreAsOne (counted like) new.core.world x.core.world → (b c : Bool) → all_ended x.core.world ≡ b → all_ended new.core.world ≡ c
         → told b x ≡ told c new
     by one true true e f = ap (with_numbers 0) at.1
-    by (inl alike) false false e f = ap (rank_digest (live_by like) x.core.world) at.1
-        ∙ sym (rank_digests (live_by like) new.core.world x.core.world (key like.order new.printed)
-        (told_by_rank (live_by like) new.core.world x.core.world alike))
+    by (inl alike) false false e f = ap (rank_digest (counted like).live (part x.core.world)) at.1
+        ∙ sym (rank_digests (counted like).live (part new.core.world) (part x.core.world) (key like.order new.printed)
+        (told_by_rank (counted like).live (part new.core.world) (part x.core.world) alike))
     by (inl alike) true false e f =
-        absurd (true≢false (sym e ∙ sym (rank_ends (live_by like) new.core.world x.core.world
-        (told_by_rank (live_by like) new.core.world x.core.world alike)) ∙ f))
+        absurd (true≢false (sym e ∙ sym (rank_ends (counted like).live (part new.core.world) (part x.core.world)
+        (told_by_rank (counted like).live (part new.core.world) (part x.core.world) alike)) ∙ f))
     by (inl alike) false true e f =
-        absurd (true≢false (sym f ∙ rank_ends (live_by like) new.core.world x.core.world
-        (told_by_rank (live_by like) new.core.world x.core.world alike) ∙ e))
+        absurd (true≢false (sym f ∙ rank_ends (counted like).live (part new.core.world) (part x.core.world)
+        (told_by_rank (counted like).live (part new.core.world) (part x.core.world) alike) ∙ e))
     by (inr over) true false e f = absurd (true≢false (sym over.0 ∙ f))
     by (inr over) false true e f = absurd (true≢false (sym over.1 ∙ e))
     by (inr over) false false e f = absurd (true≢false (sym over.1 ∙ e))
@@ -330,7 +333,7 @@ different_push like old new o e fresh before i j x y hi hj same =
             y,
             b,
             subst (λ (z : FoundValue). IsAt like y z.core.world z.printed) (sym a.1)
-                (as_one_turned (live_by like) y.core.world x.core.world same.0, sym same.1),
+                (as_one_turned (counted like) y.core.world x.core.world same.0, sym same.1),
           ),
         ))
     by (inr a) (inr b) = a.0 ∙ sym b.0

@@ -1,9 +1,9 @@
--- Those that were found, each by a step from one before it. This project's own.
+-- Those that were found, each by a way from one before it. This project's own.
 use Rattle.std.specs.Prelude.{◌≡◌, ℕ, ◌<◌, ◌≤◌, Bool, List, [], ◌∷◌, ◌++◌, length, Some, slice_get, get_or, fold}
 use Rattle.xk_core.specs.Core.{CoreValue}
 use Rattle.xk_outcomes.specs.declared.entries.Edge.{Edge}
-use Rattle.xk_liveness.specs.Liveness.{IsLiveness}
-use Rattle.xk_outcomes.specs.Alikeness.{Alikeness, live_by}
+use Rattle.xk_ranks.specs.Reads.{IsCounting}
+use Rattle.xk_outcomes.specs.Alikeness.{Alikeness, counted}
 use Rattle.xk_outcomes.specs.Checkpoints.{AreCheckpoints}
 use Rattle.xk_outcomes.specs.declared.checkpoint.Checkpoint.{Checkpoint}
 use Rattle.xk_outcomes.specs.Found.{FoundValue, first_found, through}
@@ -34,14 +34,14 @@ first_entry like start = record { start = start; like = like; ways = []; all = f
 abbrev pub AreBehind : List (List ℕ) → List Edge → Type 0
 AreBehind ways edges = (k : ℕ) (e : Edge) → slice_get edges k ≡ Some e → (e.from ≤ k) × (e.way < length ways)
 
--- The search starts with a core that has taken no step, in whose module no more slots are live than are told; these are
+-- The search starts with a core that has taken no step, in whose module no more counts than is told; these are
 -- the digests of those that the edges lead to, of which no two are the same; in these all have ended; and these are
 -- kept whole.
 pub record AreEntries (start : CoreValue) (like : Alikeness) (ways : List (List ℕ)) (edges : List Edge) (digests : List ℕ)
     (over : List Bool)
     (checkpoints : List Checkpoint) : Type 0 where
   pub root : start.world.steps ≡ 0
-  pub liveness : IsLiveness start.module_run (live_by like)
+  pub counting : IsCounting start.module_run (counted like)
   pub behind : AreBehind ways edges
   pub digests_are : AreDigests like (led_by ways start edges) digests
   pub over_are : over ≡ ends (led_by ways start edges)

@@ -1,10 +1,10 @@
 -- What a search from the beginning of runs found. This project's own.
 use Rattle.std.specs.Prelude.{◌≡◌, ℕ, ◌<◌, true, false, length, Some, slice_get}
-use Rattle.xk_liveness.specs.Liveness.{IsLiveness}
+use Rattle.xk_ranks.specs.Reads.{IsCounting}
 use Rattle.xk_core.specs.Core.{CoreValue}
 use Rattle.xk_outcomes.specs.declared.order.Order.{Order}
 use Rattle.xk_outcomes.specs.declared.search.Explored.{Explored}
-use Rattle.xk_outcomes.specs.Alikeness.{live_by}
+use Rattle.xk_outcomes.specs.Alikeness.{counted}
 use Rattle.xk_outcomes.specs.Found.{first_found}
 use Rattle.xk_outcomes.specs.Links.{AreLinked}
 use Rattle.xk_outcomes.specs.Search.{AreAllFound, AreAtRest, AreDifferent, AreFound}
@@ -16,8 +16,8 @@ pub record IsExplored (order : Order) (start : CoreValue) (limit : ℕ) (x : Exp
   pub told : x.found.like.order ≡ order
   pub begins : slice_get x.found.all 0 ≡ Some (first_found start)
   pub found : AreFound start x.found.all
-  pub liveness : IsLiveness start.module_run (live_by x.found.like)
-  pub linked : AreLinked (live_by x.found.like) start.module_run x.found.ways x.found.all x.links.items
+  pub counting : IsCounting start.module_run (counted x.found.like)
+  pub linked : AreLinked (counted x.found.like) start.module_run x.found.ways x.found.all x.links.items
   pub rest : AreAtRest x.found.all
   pub different : AreDifferent x.found.like x.found.all
   pub all : x.complete ≡ true → AreAllFound order start x.found.all x.links.items

@@ -4,7 +4,7 @@ use Rattle.xk_types.specs.Code.{ModuleValue}
 use Rattle.xk_types.specs.World.{World, opening}
 use Rattle.xk_types.specs.Schedule.{Through, run, all_ended, printed}
 use Rattle.xk_types.specs.Logs.{schedule_of}
-use Rattle.xk_liveness.specs.Liveness.{IsLiveness, SlotTable}
+use Rattle.xk_ranks.specs.Reads.{Counting, IsCounting}
 use Rattle.xk_outcomes.specs.Alikeness.{AreAsOne}
 use Rattle.xk_core.specs.Core.{CoreValue}
 use Rattle.xk_readings.specs.declared.edge.Edge.{Edge}
@@ -83,19 +83,20 @@ AreEndsListedIn order m args schedules list = (k : ℕ) (p : List ℕ) (numbers 
     → IsOutcome m args p numbers
     → IsListed list (ordered order numbers)
 
--- These schedules are legal and lead to worlds at rest, and no two of them lead to worlds that are alike where slots are live, or by rank
+-- These schedules are legal and lead to worlds at rest, and no two of them lead to worlds that are alike in what counts, or so by rank
 -- as far as a core tells, or in which all have ended, unless what is printed on the way tells them apart.
-pub record AreApartIn (live : SlotTable) (order : Order) (m : ModuleValue) (args : List ℤ) (schedules : List (List ℕ)) : Type 0 where
+pub record AreApartIn (counts : Counting) (order : Order) (m : ModuleValue) (args : List ℤ) (schedules : List (List ℕ)) : Type 0 where
   pub legal : (k : ℕ) (p : List ℕ) → slice_get schedules k ≡ Some p → (w : World) × (run m p (opening m args) ≡ Through w) × IsAtRest m w
   pub apart : (i j : ℕ) (p q : List ℕ) (w v : World) → slice_get schedules i ≡ Some p → slice_get schedules j ≡ Some q
       → run m p (opening m args) ≡ Through w → run m q (opening m args) ≡ Through v
-      → AreAsOne live w v → key order (printed m p (opening m args)) ≡ key order (printed m q (opening m args)) → i ≡ j
+      → AreAsOne counts w v → key order (printed m p (opening m args)) ≡ key order (printed m q (opening m args)) → i ≡ j
 
--- So many worlds at rest were kept, by a table that has all live slots, and what is printed by the ones in which all have ended is listed, unless as many are listed as the limit says.
+-- So many worlds at rest were kept, by tables that have all that counts, and what is printed by the ones in which all have ended is listed,
+-- unless as many are listed as the limit says.
 pub record HasKeptIn (order : Order) (m : ModuleValue) (args : List ℤ) (limit : ℕ) (list : List Outcome) (entries : ℕ) : Type 0 where
   pub schedules : List (List ℕ)
   pub many : length schedules ≡ entries
-  pub live : SlotTable
-  pub liveness : IsLiveness m live
-  pub apart : AreApartIn live order m args schedules
+  pub counts : Counting
+  pub counting : IsCounting m counts
+  pub apart : AreApartIn counts order m args schedules
   pub ends : length list < limit → AreEndsListedIn order m args schedules list

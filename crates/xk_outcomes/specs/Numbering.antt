@@ -51,7 +51,7 @@ AreNumberedAs true m args limit list entries = Unit {0}
 abbrev pub IsAddedAs : List ℤ → List Outcome → List Outcome → Type 0
 IsAddedAs numbers old new = (new ≡ old) ⊎ ((o : Outcome) × (new ≡ old ++ o ∷ []) × (o.numbers.items ≡ numbers))
 
--- steps of its activities print the numbers of each reading
+-- the steps of its ways print the numbers of each reading
 abbrev pub ArePlayedAll : CoreValue → List (List ℕ) → List Reading → Type 0
 ArePlayedAll start ways found =
     (i : ℕ) (r : Reading) → slice_get found i ≡ Some r → IsPlayed start (steps_of ways r.acts.items) r.numbers.items

@@ -5,7 +5,7 @@ use Rattle.xk_types.specs.Code.{ModuleValue}
 use Rattle.xk_types.specs.World.{World, opening}
 use Rattle.xk_types.specs.Schedule.{Through, run, all_ended, printed}
 use Rattle.xk_types.specs.Logs.{schedule_of}
-use Rattle.xk_liveness.specs.Liveness.{SlotTable}
+use Rattle.xk_ranks.specs.Reads.{Counting}
 use Rattle.xk_outcomes.specs.Alikeness.{AreAsOne}
 use Rattle.xk_outcomes.specs.PrivateSteps.{has_private_step}
 use Rattle.xk_outcomes.specs.declared.listing.Outcome.{Outcome}
@@ -40,14 +40,14 @@ AreAll m args list = (schedule : List ℕ) (numbers : List ℤ) → IsOutcome m 
 abbrev pub IsAtRest : ModuleValue → World → Type 0
 IsAtRest m w = (a : ℕ) → has_private_step m w a ≡ false
 
--- These schedules are legal and lead to worlds at rest, and no two of them lead to worlds that are alike where slots are live (which
--- differ at most in dead slots, in frames of activities that have ended, in numbers of steps and in phases), or by rank as far as a core
--- tells: in which activities have ended, too; and no two to worlds in which all have ended.
-pub record AreApart (live : SlotTable) (m : ModuleValue) (args : List ℤ) (schedules : List (List ℕ)) : Type 0 where
+-- These schedules are legal and lead to worlds at rest, and no two of them lead to worlds that are alike in what counts (which differ at
+-- most in dead slots, in frames of activities that have ended, in numbers of steps and in phases, and in shared numbers that nobody can read
+-- any more), or so by rank as far as a core tells (who has ended is left out then); and no two to worlds in which all have ended.
+pub record AreApart (counts : Counting) (m : ModuleValue) (args : List ℤ) (schedules : List (List ℕ)) : Type 0 where
   pub legal : (k : ℕ) (p : List ℕ) → slice_get schedules k ≡ Some p → (w : World) × (run m p (opening m args) ≡ Through w) × IsAtRest m w
   pub apart : (i j : ℕ) (p q : List ℕ) (w v : World) → slice_get schedules i ≡ Some p → slice_get schedules j ≡ Some q
       → run m p (opening m args) ≡ Through w → run m q (opening m args) ≡ Through v
-      → AreAsOne live w v → i ≡ j
+      → AreAsOne counts w v → i ≡ j
 
 -- what these schedules print after which all have ended is listed
 abbrev pub AreEndsListed : ModuleValue → List ℤ → List (List ℕ) → List Outcome → Type 0

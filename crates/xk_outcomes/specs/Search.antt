@@ -10,11 +10,12 @@ use Rattle.xk_types.specs.Schedule.{Through, run, all_ended, is_enabled, printed
 use Rattle.xk_closed.specs.Closed.{IsClosed}
 use Rattle.xk_outcomes.specs.PrivateSteps.{has_private_step}
 use Rattle.xk_core.specs.Core.{CoreValue}
-use Rattle.xk_outcomes.specs.Alikeness.{Alikeness, AreAsOne, live_by}
+use Rattle.xk_outcomes.specs.Alikeness.{Alikeness, AreAsOne, counted}
 use Rattle.xk_outcomes.specs.Found.{FoundValue, at_rest, next}
 use Rattle.xk_outcomes.specs.Ways.{LeadsAlone}
 use Rattle.xk_readings.specs.declared.edge.Edge.{Edge}
 use Rattle.xk_outcomes.specs.declared.order.Order.{Order}
+use Rattle.xk_ranks.specs.Reads.{read_part}
 use Rattle.xk_rank_digests.specs.RankDigest.{rank_digest}
 use Rattle.xk_digests.specs.Digest.{with_numbers}
 use Rattle.xk_outcomes.specs.Links.{HasLink, LeadTo}
@@ -64,7 +65,7 @@ IsGrown {X} old new = (k : ℕ) (x : X) → slice_get old k ≡ Some x → slice
 
 -- from its world on the same can happen as from this one, and these numbers being printed by then doesn't tell it apart
 abbrev pub IsAt : Alikeness → FoundValue → World → List ℤ → Type 0
-IsAt like x w numbers = AreAsOne (live_by like) w x.core.world × (key like.order x.printed ≡ key like.order numbers)
+IsAt like x w numbers = AreAsOne (counted like) w x.core.world × (key like.order x.printed ≡ key like.order numbers)
 
 -- the one of a number is
 abbrev pub IsThere : Alikeness → List FoundValue → World → List ℤ → ℕ → Type 0
@@ -88,7 +89,7 @@ abbrev pub found_digest : Alikeness → FoundValue → ℕ
 found_digest like x =
     if all_ended x.core.world
     then with_numbers 0 (key like.order x.printed)
-    else rank_digest (live_by like) x.core.world (key like.order x.printed)
+    else rank_digest (counted like).live (read_part (counted like).rest x.core.world) (key like.order x.printed)
 
 -- their digests
 abbrev pub AreDigests : Alikeness → List FoundValue → List ℕ → Type 0

@@ -5,7 +5,7 @@ use Rattle.xk_types.specs.Code.{ModuleValue}
 use Rattle.xk_types.specs.World.{World, opening}
 use Rattle.xk_types.specs.Schedule.{Through, run, printed}
 use Rattle.xk_types.specs.Logs.{schedule_of}
-use Rattle.xk_liveness.specs.Liveness.{SlotTable}
+use Rattle.xk_ranks.specs.Reads.{Counting}
 use Rattle.xk_outcomes.specs.Alikeness.{AreAsOne}
 use Rattle.xk_outcomes.specs.declared.listing.Outcome.{Outcome}
 use Rattle.xk_outcomes.specs.Outcomes.{AreAll, AreApart, AreDistinct, AreEndsListed, AreShown, IsAtRest, IsOutcome}
@@ -47,13 +47,13 @@ abbrev pub AreEndsSetListed : ModuleValue → List ℤ → List (List ℕ) → L
 AreEndsSetListed m args schedules list = (k : ℕ) (p : List ℕ) (numbers : List ℤ) → slice_get schedules k ≡ Some p
     → IsOutcome m args p numbers → IsSetListed list numbers
 
--- These schedules are legal and lead to worlds at rest, and no two of them lead to worlds that are alike where slots are live, or by rank
+-- These schedules are legal and lead to worlds at rest, and no two of them lead to worlds that are alike in what counts, or so by rank
 -- as far as a core tells, or in which all have ended, and print the same numbers on the way, in whatever order.
-pub record AreSetsApart (live : SlotTable) (m : ModuleValue) (args : List ℤ) (schedules : List (List ℕ)) : Type 0 where
+pub record AreSetsApart (counts : Counting) (m : ModuleValue) (args : List ℤ) (schedules : List (List ℕ)) : Type 0 where
   pub legal : (k : ℕ) (p : List ℕ) → slice_get schedules k ≡ Some p → (w : World) × (run m p (opening m args) ≡ Through w) × IsAtRest m w
   pub apart : (i j : ℕ) (p q : List ℕ) (w v : World) → slice_get schedules i ≡ Some p → slice_get schedules j ≡ Some q
       → run m p (opening m args) ≡ Through w → run m q (opening m args) ≡ Through v
-      → AreAsOne live w v → HaveSameNumbers (printed m p (opening m args)) (printed m q (opening m args)) → i ≡ j
+      → AreAsOne counts w v → HaveSameNumbers (printed m p (opening m args)) (printed m q (opening m args)) → i ≡ j
 
 -- ---- as lists of numbers, or without their order
 
@@ -78,6 +78,6 @@ AreEndsListedAs false = AreEndsListed
 AreEndsListedAs true = AreEndsSetListed
 
 -- these schedules lead to worlds at rest that are kept apart, as lists of numbers or without their order
-abbrev pub AreApartAs : Bool → SlotTable → ModuleValue → List ℤ → List (List ℕ) → Type 0
+abbrev pub AreApartAs : Bool → Counting → ModuleValue → List ℤ → List (List ℕ) → Type 0
 AreApartAs false = AreApart
 AreApartAs true = AreSetsApart

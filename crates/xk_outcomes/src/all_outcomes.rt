@@ -26,8 +26,8 @@ use xk_core::Core;
 /// When a search leaves off.
 #[derive(Clone, Copy, Debug)]
 pub struct Limit {
-    /// As soon as more worlds are kept: so a search that comes to its end with as many is complete. All that one of them leads to in a
-    /// step are kept before the next look.
+    /// As soon as more worlds are kept: so a search that comes to its end with as many is complete. All that one of them
+    /// leads to by its ways are kept before the next look.
     pub entries: usize,
     /// As soon as so many lists of numbers are told, and one is found that isn't. They are never more, but what the plain runs print
     /// is told whatever the limit is.
@@ -37,7 +37,8 @@ pub struct Limit {
 /// A search leaves off as soon as more worlds are kept or so many outcomes are told, where nothing is said.
 const USUAL_LIMIT: u64 = 40_000;
 
-/// How many steps are tried then at most, as far as can be said before: one of each activity from each world.
+/// How many ways are tried then at most, as far as can be said before: one that begins with a step of each activity from
+/// each world.
 const USUAL_TRIES: u64 = 4_000_000;
 
 /// How many worlds are kept, and outcomes told, at most in a first look.
@@ -92,8 +93,8 @@ pub fn outcomes(
         → (limit.entries < r.entries) ⊎ (limit.outcomes ≤ length r.list.items)) }
     // No more are told than the limit says, or than there are plain runs.
     ensures most { IfOk result (λ r. length r.list.items ≤ max limit.outcomes plain_runs) }
-    // As many are kept, each at rest: no two of them are alike. What was printed by one in which all have ended is listed,
-    // unless as many are as the limit says.
+    // As many are kept, each at rest: no two of them are alike, and in one at most all have ended. What that one printed
+    // is listed, unless as many are as the limit says.
     ensures kept { IfOk result
         (λ r. HasKept verified.now arguments.now false limit.outcomes r.list.items r.entries) }
     // Behind what the plain runs print they come in rising order, and what isn't told comes behind them.
@@ -121,7 +122,7 @@ pub fn outcome_sets(
         → IsOneOfManyAs true verified.now arguments.now) }
     ensures plain { IfOk result (λ r. r.complete ≡ false
         → ArePlainListedAs true verified.now arguments.now r.list.items) }
-    // As for `outcomes`.
+    // As for `outcomes`; but what each world printed in which all have ended is listed.
     ensures limit { IfOk result (λ r. r.complete ≡ false
         → (limit.entries < r.entries) ⊎ (limit.outcomes ≤ length r.list.items)) }
     ensures most { IfOk result (λ r. length r.list.items ≤ max limit.outcomes plain_runs) }

@@ -1,15 +1,14 @@
-//! Those that were found, of most of which only how they were found is kept: from which, and by whose step.
+//! Those that were found, of most of which only how they were found is kept: from which, and by which way.
 
 ghost use Rattle.std.specs.Prelude.{◌≡◌, ◌<◌, ◌⊎◌, ◌++◌, ◌∷◌, [], OnOk, true, false, length, reverse, slice_get};
 ghost use Rattle.std.specs.Prelude.{slice_set, IfNone, IfOk, IfSome, OnErr, Some, List};
-ghost use Rattle.std.specs.Bool.{Decides};
 ghost use Rattle.xk_types.specs.Bound.{steps_bound};
 ghost use Rattle.xk_types.specs.Schedule.{all_ended};
 ghost use Rattle.xk_readings.specs.declared.edge.Edge.{Edge as Link};
 ghost use Rattle.xk_readings.specs.Graphs.{graph};
 ghost use Rattle.xk_readings.specs.Readings.{IsLongest};
-ghost use Rattle.xk_liveness.specs.Liveness.{IsLiveness};
-ghost use Rattle.xk_outcomes.specs.Alikeness.{live_by};
+ghost use Rattle.xk_ranks.specs.Reads.{IsCounting};
+ghost use Rattle.xk_outcomes.specs.Alikeness.{counted};
 ghost use Rattle.xk_outcomes.specs.Checkpoints.{IsCheckpoint};
 ghost use Rattle.xk_outcomes.specs.Entries.{first_entry};
 ghost use Rattle.xk_outcomes.specs.Found.{FoundValue, along, first_found, through};
@@ -20,15 +19,14 @@ ghost use Rattle.xk_outcomes.specs.Search.{AreDifferent, AreFound, AreSettled, H
 ghost use Rattle.xk_outcomes.specs.Search.{IsGrown, IsThere, found_digest};
 
 use crate::checkpoint::{Checkpoint, ROOM, is_far, room_beside};
+use crate::counts::Counts;
 use crate::found::{Found, beginning};
 use crate::order::{Order, key_of};
 use crate::run::Run;
 use std::alloc::{AllocError, Global};
 use std::marker::Model;
 use xk_core::Core;
-use xk_digests::{Digests, with_numbers};
-use xk_live_slots::LiveSlots;
-use xk_rank_digests::{are_alike_by_rank, rank_digest_of};
+use xk_digests::{Digests, are_same_numbers, with_numbers};
 
 /// How one was found: by a way from one before it.
 #[derive(Clone, Copy, Debug)]
@@ -50,13 +48,13 @@ struct Way {
 
 /// Those that were found, numbered from 0. The first is found by private steps alone. A core is kept with the first, and
 /// with one to which many steps lead from where one is kept: whoever wants to look at another is led there again from
-/// such a checkpoint. No two are in worlds that are told to be alike, where slots are live or by rank, or in which all
-/// have ended, unless the order tells them apart by what was printed by then.
+/// such a checkpoint. No two are in worlds that are told to be alike in what counts, or in which all have ended, unless the
+/// order tells them apart by what was printed by then.
 #[derive(Drop)]
 pub struct Entries<'m> {
     start: Core<'m>,
     order: Order,
-    live: LiveSlots<'m>,
+    counts: Counts<'m>,
     // for each of them the ranks of the activities that take its steps
     ways: Vec<Vec<u32>>,
     edges: Vec<Edge>,
@@ -79,13 +77,13 @@ impl<'m> Model for Entries<'m> {
 
     ghost view = { λ e. record {
       start = e.start;
-      like = record { order = e.order; slots = e.live };
+      like = record { order = e.order; counts = e.counts };
       ways = ways_in e.ways.items;
       all = led_by (ways_in e.ways.items) e.start e.edges.items;
     } };
 
     ghost invariant = { λ e. AreEntries e.start
-        (record { order = e.order; slots = e.live }) (ways_in e.ways.items) e.edges.items
+        (record { order = e.order; counts = e.counts }) (ways_in e.ways.items) e.edges.items
         e.digests e.over.items e.checkpoints.items };
 }
 
@@ -93,51 +91,45 @@ impl<'m> Model for Entries<'m> {
 fn found_digest(
     alloc: Global,
     order: Order,
-    live: &LiveSlots<'_>,
+    counts: &Counts<'_>,
     x: &Found<'_>,
 ) -> Result<u64, AllocError>
     ensures { IfOk result (λ digest. digest
-        ≡ found_digest (record { order = order; slots = live.now }) x.now) }
+        ≡ found_digest (record { order = order; counts = counts.now }) x.now) }
 {
     let key = key_of(alloc, order, &x.printed)?;
     if x.core.ended() {
         return Ok(with_numbers(0, &key));
     }
-    Ok(rank_digest_of(live, &x.core, &key))
-}
-
-/// Whether two lists of numbers are the same.
-pub fn are_same(a: &[i64], b: &[i64]) -> bool
-    ensures { Decides result (a.now ≡ b.now) }
-{
-    a == b
+    counts.digest_of(alloc, &x.core, &key)
 }
 
 /// Whether from the worlds of the two the same can happen, and nothing that was printed by then tells them apart.
 fn is_same(
     alloc: Global,
     order: Order,
-    live: &LiveSlots<'_>,
+    counts: &Counts<'_>,
     x: &Found<'_>,
     new: &Found<'_>,
 ) -> Result<bool, AllocError>
     requires { x.now.core.module_run ≡ new.now.core.module_run }
     ensures yes { IfOk result (λ same. same ≡ true
-        → IsAt (record { order = order; slots = live.now }) x.now
+        → IsAt (record { order = order; counts = counts.now }) x.now
         new.now.core.world new.now.printed) }
     ensures no { IfOk result (λ same. same ≡ false
-        → IsAt (record { order = order; slots = live.now }) x.now
+        → IsAt (record { order = order; counts = counts.now }) x.now
         new.now.core.world new.now.printed → ⊥) }
 {
     let key = key_of(alloc, order, &x.printed)?;
     let new_key = key_of(alloc, order, &new.printed)?;
-    if !are_same(&key, &new_key) {
+    if !are_same_numbers(&key, &new_key) {
         return Ok(false);
     }
     if new.core.ended() && x.core.ended() {
         return Ok(true);
     }
-    are_alike_by_rank(alloc, live, &new.core, &x.core)
+    let same = counts.are_alike(alloc, &new.core, &x.core)?;
+    Ok(same)
 }
 
 /// Another place stands at a number, if one does.
@@ -154,21 +146,22 @@ fn put_first<'m>(
     alloc: Global,
     order: Order,
     start: &Core<'m>,
-    live: &LiveSlots<'m>,
+    counts: &Counts<'m>,
     digests: &mut Digests,
     over: &mut Vec<bool>,
     checkpoints: &mut Vec<Checkpoint<'m>>,
 ) -> Result<(), AllocError>
     requires { start.now.world.steps ≡ 0 }
     ensures digests { OnOk result (digests.new ≡ digests.old
-        ++ found_digest (record { order = order; slots = live.now }) (first_found start.now) ∷ []) }
+        ++ found_digest (record { order = order; counts = counts.now })
+        (first_found start.now) ∷ []) }
     ensures over { OnOk result (over.new.items ≡ over.old.items
         ++ all_ended (first_found start.now).core.world ∷ []) }
     ensures checkpoints { OnOk result (checkpoints.new.items ≡ checkpoints.old.items
         ++ record { number = 0; found = first_found start.now } ∷ []) }
 {
     let found = beginning(alloc, start)?;
-    let digest = found_digest(alloc, order, live, &found)?;
+    let digest = found_digest(alloc, order, counts, &found)?;
     digests.push(digest)?;
     over.push(found.core.ended())?;
     match checkpoints.push(Checkpoint { number: 0, found }) {
@@ -184,9 +177,7 @@ impl<'m> Entries<'m> {
         ensures first { IfOk result (λ e. e ≡ first_entry e.like start.entry) }
         ensures told { IfOk result (λ e. e.like.order ≡ order) }
     {
-        let live = LiveSlots::of(alloc, start.module())?;
-        // For the invariant: that it has all live slots.
-        let _verified = live.module();
+        let counts = Counts::of(alloc, start.module())?;
         let mut digests = Digests::new(alloc);
         let mut over = Vec::new(alloc);
         let mut nearest = Vec::new(alloc);
@@ -196,7 +187,7 @@ impl<'m> Entries<'m> {
             alloc,
             order,
             &start,
-            &live,
+            &counts,
             &mut digests,
             &mut over,
             &mut checkpoints,
@@ -204,7 +195,7 @@ impl<'m> Entries<'m> {
         Ok(Entries {
             start,
             order,
-            live,
+            counts,
             ways: Vec::new(alloc),
             edges: Vec::new(alloc),
             digests,
@@ -221,8 +212,8 @@ impl<'m> Entries<'m> {
         ensures found { AreFound self.now.start self.now.all }
         ensures settled { AreSettled self.now.start self.now.all }
         ensures different { AreDifferent self.now.like self.now.all }
-        // By a table that has all live slots.
-        ensures liveness { IsLiveness self.now.start.module_run (live_by self.now.like) }
+        // By tables that have all that counts.
+        ensures counting { IsCounting self.now.start.module_run (counted self.now.like) }
     {
         // The first one, and one for each edge.
         self.edges.len() + 1
@@ -235,16 +226,16 @@ impl<'m> Entries<'m> {
         &self.over
     }
 
-    /// How many steps a run has at most; so many links stand for one that is read.
+    /// How many steps a run has at most: no more links stand along one that is read.
     pub fn longest(&self) -> u64
         ensures bound { result ≡ steps_bound self.now.start.module_run }
         ensures longest { (links : List Link)
-            → AreLinked (live_by self.now.like) self.now.start.module_run self.now.ways self.now.all
+            → AreLinked (counted self.now.like) self.now.start.module_run self.now.ways self.now.all
             links
             → IsLongest (graph links (ends self.now.all)) result }
-        // What is printed along links to where all have ended is printed by their steps.
+        // What is printed along links to where all have ended is printed by the steps of their ways.
         ensures played { (links : List Link)
-            → AreLinked (live_by self.now.like) self.now.start.module_run self.now.ways self.now.all
+            → AreLinked (counted self.now.like) self.now.start.module_run self.now.ways self.now.all
             links
             → ArePlayed self.now.start self.now.ways self.now.all links }
     {
@@ -415,7 +406,7 @@ impl<'m> Entries<'m> {
         // For its module: they are found.
         let _count = self.len();
         let x = self.get(alloc, number)?;
-        let same = is_same(alloc, self.order, &self.live, &x, new)?;
+        let same = is_same(alloc, self.order, &self.counts, &x, new)?;
         Ok(same)
     }
 
@@ -463,7 +454,7 @@ impl<'m> Entries<'m> {
         ensures added { IfOk result (IsAdded self.old.like self.old.all self.new.all new.now) }
         ensures same { OnErr result (self.new.all ≡ self.old.all) }
     {
-        let digest = found_digest(alloc, self.order, &self.live, new)?;
+        let digest = found_digest(alloc, self.order, &self.counts, new)?;
         let known = self.known(alloc, new, digest)?;
         match known {
             Some(number) => return Ok(number),

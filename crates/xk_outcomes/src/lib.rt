@@ -3,6 +3,7 @@
 
 mod all_outcomes;
 mod checkpoint;
+mod counts;
 mod entries;
 mod found;
 mod listed;

@@ -34,8 +34,8 @@ pub struct Outcomes {
     pub list: Vec<Outcome>,
     /// Whether that is all.
     pub complete: bool,
-    /// How many worlds were kept to find it: all at rest, no two of them alike; or, where the order of numbers doesn't
-    /// count, alike with the same numbers printed.
+    /// How many worlds were kept to find it: all at rest, no two of them alike, and one at most in which all have ended; or,
+    /// where the order of numbers doesn't count, so among those that printed the same numbers.
     pub entries: usize,
 }
 

@@ -4,7 +4,7 @@ ghost use Rattle.std.specs.Prelude.{◌≡◌, ◌≤◌, true, false, length, m
 ghost use Rattle.xk_readings.specs.Rising.{AreRising};
 ghost use Rattle.xk_outcomes.specs.declared.listing.Outcome.{Outcome as AnOutcome};
 ghost use Rattle.xk_outcomes.specs.declared.order.Order.TheVariants as told;
-ghost use Rattle.xk_outcomes.specs.Alikeness.{live_by};
+ghost use Rattle.xk_outcomes.specs.Alikeness.{counted};
 ghost use Rattle.xk_outcomes.specs.Links.{AreLinked};
 ghost use Rattle.xk_outcomes.specs.Ways.{steps_of};
 ghost use Rattle.xk_outcomes.specs.Listing.{AreMet, AreOf, AreRead, AreReadingsPut, IsPlayed, KeepsListed};
@@ -20,7 +20,8 @@ use crate::search::Explored;
 use std::alloc::{AllocError, Global};
 use xk_readings::{Edge, Reading, readings};
 
-/// Lists what the steps of a reading print, if it is listed already or fewer are than the limit says. Whether it is listed then.
+/// Lists what the steps on a reading's ways print, if it is listed already or fewer are than the limit says. Whether it is
+/// listed then.
 fn note_reading(
     alloc: Global,
     list: &mut Listed,
@@ -88,7 +89,7 @@ fn list_readings(
     links: &[Edge],
     limit: usize,
 ) -> Result<bool, AllocError>
-    requires { AreLinked (live_by all.now.like) all.now.start.module_run
+    requires { AreLinked (counted all.now.like) all.now.start.module_run
         all.now.ways all.now.all links.now }
     ensures of { AreOf told.Printed all.now.start list.old list.new }
     ensures kept { KeepsListed list.old list.new }
@@ -115,7 +116,7 @@ pub fn list_found(
     explored: &Explored<'_>,
     limit: usize,
 ) -> Result<bool, AllocError>
-    requires { AreLinked (live_by explored.now.found.like) explored.now.found.start.module_run
+    requires { AreLinked (counted explored.now.found.like) explored.now.found.start.module_run
         explored.now.found.ways explored.now.found.all explored.now.links.items }
     ensures of { AreOf order explored.now.found.start list.old list.new }
     ensures kept { KeepsListed list.old list.new }

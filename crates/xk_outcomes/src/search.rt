@@ -2,8 +2,8 @@
 
 ghost use Rattle.std.specs.Prelude.{◌≡◌, ◌<◌, ◌≤◌, ℕ, true, false, length, slice_get, IfOk, IfSome, OnOk, Some};
 ghost use Rattle.xk_types.specs.Schedule.{is_enabled};
-ghost use Rattle.xk_liveness.specs.Liveness.{IsLiveness};
-ghost use Rattle.xk_outcomes.specs.Alikeness.{live_by};
+ghost use Rattle.xk_ranks.specs.Reads.{IsCounting};
+ghost use Rattle.xk_outcomes.specs.Alikeness.{counted};
 ghost use Rattle.xk_outcomes.specs.Found.{FoundValue, first_found};
 ghost use Rattle.xk_outcomes.specs.Links.{AreLinked};
 ghost use Rattle.xk_outcomes.specs.Search.{AreAllFound, AreAtRest, AreDifferent, AreExpanded, AreFound};
@@ -20,7 +20,8 @@ use xk_rank_digests::rank_of;
 use xk_readings::Edge;
 use xk_types::Act;
 
-/// So many steps to which there is no choice are taken at most before what they lead to is kept.
+/// So many steps to which there is no choice are taken at most before what they lead to is kept. Private steps behind each
+/// don't count.
 const LONGEST_WAY: u32 = 1_000;
 
 /// What was found, and whether that is all.
@@ -59,8 +60,8 @@ fn link_after(
     ensures like { all.new.like ≡ all.old.like }
     ensures grown { IsGrown all.old.all all.new.all }
     ensures more { IsGrown links.old.items links.new.items }
-    ensures linked { OnOk result (AreLinked (live_by all.old.like) here.now.core.module_run
-        all.old.ways all.old.all links.old.items → AreLinked (live_by all.new.like)
+    ensures linked { OnOk result (AreLinked (counted all.old.like) here.now.core.module_run
+        all.old.ways all.old.all links.old.items → AreLinked (counted all.new.like)
         here.now.core.module_run all.new.ways all.new.all links.new.items) }
     ensures after { OnOk result (HasAfter here.now.core.module_run all.new.like
         all.new.all links.new.items number here.now act) }
@@ -198,8 +199,8 @@ fn try_act<'m>(
     ensures like { all.new.like ≡ all.old.like }
     ensures grown { IsGrown all.old.all all.new.all }
     ensures more { IsGrown links.old.items links.new.items }
-    ensures linked { OnOk result (AreLinked (live_by all.old.like) here.now.core.module_run
-        all.old.ways all.old.all links.old.items → AreLinked (live_by all.new.like)
+    ensures linked { OnOk result (AreLinked (counted all.old.like) here.now.core.module_run
+        all.old.ways all.old.all links.old.items → AreLinked (counted all.new.like)
         here.now.core.module_run all.new.ways all.new.all links.new.items) }
     ensures after { OnOk result (HasAfter here.now.core.module_run all.new.like
         all.new.all links.new.items number here.now act) }
@@ -241,8 +242,8 @@ fn try_one<'m>(
     ensures like { all.new.like ≡ all.old.like }
     ensures grown { IsGrown all.old.all all.new.all }
     ensures more { IsGrown links.old.items links.new.items }
-    ensures linked { OnOk result (AreLinked (live_by all.old.like) here.now.core.module_run
-        all.old.ways all.old.all links.old.items → AreLinked (live_by all.new.like)
+    ensures linked { OnOk result (AreLinked (counted all.old.like) here.now.core.module_run
+        all.old.ways all.old.all links.old.items → AreLinked (counted all.new.like)
         here.now.core.module_run all.new.ways all.new.all links.new.items) }
     ensures after { OnOk result (is_tried members.now act ≡ true
         → HasAfter here.now.core.module_run all.new.like
@@ -254,7 +255,7 @@ fn try_one<'m>(
     try_act(alloc, footprints, all, links, number, here, act)
 }
 
-/// Adds what the steps lead to from here, the one of a number, that are tried.
+/// Adds what the ways lead to from here, the one of a number, that begin with the steps that are tried.
 fn look_by<'m>(
     alloc: Global,
     footprints: &Footprints<'_>,
@@ -270,8 +271,8 @@ fn look_by<'m>(
     ensures like { all.new.like ≡ all.old.like }
     ensures grown { IsGrown all.old.all all.new.all }
     ensures more { IsGrown links.old.items links.new.items }
-    ensures linked { OnOk result (AreLinked (live_by all.old.like) here.now.core.module_run
-        all.old.ways all.old.all links.old.items → AreLinked (live_by all.new.like)
+    ensures linked { OnOk result (AreLinked (counted all.old.like) here.now.core.module_run
+        all.old.ways all.old.all links.old.items → AreLinked (counted all.new.like)
         here.now.core.module_run all.new.ways all.new.all links.new.items) }
     ensures after { OnOk result ((a : ℕ) → is_tried members.now a ≡ true
         → HasAfter here.now.core.module_run all.new.like
@@ -283,7 +284,7 @@ fn look_by<'m>(
     Ok(())
 }
 
-/// Adds what the steps of a closed set lead to from here, the one of a number, or each step.
+/// Adds what the ways lead to from here, the one of a number, that begin with steps of a closed set, or with any.
 fn look<'m>(
     alloc: Global,
     footprints: &Footprints<'_>,
@@ -298,8 +299,8 @@ fn look<'m>(
     ensures like { all.new.like ≡ all.old.like }
     ensures grown { IsGrown all.old.all all.new.all }
     ensures more { IsGrown links.old.items links.new.items }
-    ensures linked { OnOk result (AreLinked (live_by all.old.like) here.now.core.module_run
-        all.old.ways all.old.all links.old.items → AreLinked (live_by all.new.like)
+    ensures linked { OnOk result (AreLinked (counted all.old.like) here.now.core.module_run
+        all.old.ways all.old.all links.old.items → AreLinked (counted all.new.like)
         here.now.core.module_run all.new.ways all.new.all links.new.items) }
     ensures expanded { OnOk result (IsExpanded here.now.core.module_run all.new.like
         all.new.all links.new.items number here.now) }
@@ -310,7 +311,7 @@ fn look<'m>(
     }
 }
 
-/// Adds what the steps of a closed set, or all, lead to from the one of a number.
+/// Adds what the ways lead to from the one of a number, that begin with steps of a closed set, or with any.
 fn expand<'m>(
     alloc: Global,
     footprints: &Footprints<'_>,
@@ -324,8 +325,8 @@ fn expand<'m>(
     ensures like { all.new.like ≡ all.old.like }
     ensures grown { IsGrown all.old.all all.new.all }
     ensures more { IsGrown links.old.items links.new.items }
-    ensures linked { OnOk result (AreLinked (live_by all.old.like) all.old.start.module_run
-        all.old.ways all.old.all links.old.items → AreLinked (live_by all.new.like)
+    ensures linked { OnOk result (AreLinked (counted all.old.like) all.old.start.module_run
+        all.old.ways all.old.all links.old.items → AreLinked (counted all.new.like)
         all.old.start.module_run all.new.ways all.new.all links.new.items) }
     ensures expanded { OnOk result ((x : FoundValue) → slice_get all.old.all number ≡ Some x
         → IsExpanded all.old.start.module_run all.new.like
@@ -349,8 +350,8 @@ fn search<'m>(
     ensures start { all.new.start ≡ all.old.start }
     ensures like { all.new.like ≡ all.old.like }
     ensures grown { IsGrown all.old.all all.new.all }
-    ensures linked { OnOk result (AreLinked (live_by all.old.like) all.old.start.module_run
-        all.old.ways all.old.all links.old.items → AreLinked (live_by all.new.like)
+    ensures linked { OnOk result (AreLinked (counted all.old.like) all.old.start.module_run
+        all.old.ways all.old.all links.old.items → AreLinked (counted all.new.like)
         all.old.start.module_run all.new.ways all.new.all links.new.items) }
     ensures expanded { IfOk result (λ complete. complete ≡ true
         → AreExpanded all.old.start.module_run all.new.like
@@ -377,11 +378,11 @@ pub fn explore<'m>(
     ensures start { IfOk result (λ r. r.found.start ≡ start.entry) }
     ensures found { IfOk result (λ r. AreFound start.entry r.found.all) }
     ensures linked { IfOk result
-        (λ r. AreLinked (live_by r.found.like) start.entry.module_run
+        (λ r. AreLinked (counted r.found.like) start.entry.module_run
         r.found.ways r.found.all r.links.items) }
     ensures told { IfOk result (λ r. r.found.like.order ≡ order) }
-    ensures liveness { IfOk result
-        (λ r. IsLiveness start.entry.module_run (live_by r.found.like)) }
+    ensures counting { IfOk result
+        (λ r. IsCounting start.entry.module_run (counted r.found.like)) }
     ensures all { IfOk result (λ r. r.complete ≡ true
         → AreAllFound order start.entry r.found.all r.links.items) }
     ensures limit { IfOk result (λ r. r.complete ≡ false → limit < length r.found.all) }
@@ -396,7 +397,7 @@ pub fn explore<'m>(
     let mut links = Vec::new(alloc);
     let footprints = Footprints::of(alloc, verified)?;
     let complete = search(alloc, &footprints, &mut found, &mut links, limit)?;
-    // For `found`, `rest`, `different` and `liveness`.
+    // For `found`, `rest`, `different` and `counting`.
     let _count = found.len();
     Ok(Explored {
         found,

@@ -20,6 +20,7 @@ use Rattle.xk_law_schedules.proofs.ScopeLemmas.FinishOwnerLemmas.{under_governed
 use Rattle.xk_law_commute.specs.PlainWorlds.{plain_clock}
 use Rattle.xk_law_commute.proofs.AwaitIndependenceLemmas.{same_or_not}
 use Rattle.xk_liveness.specs.Liveness.{SlotTable, waiting, live_activity, frame_left, callers_left}
+use Rattle.xk_closed.specs.Unread.{without_cells}
 use Rattle.xk_activity.specs.Activities.{act_at, nobody}
 use Rattle.xk_core.specs.Core.{IsCore, governor}
 use Rattle.xk_core.specs.Alikeness.{IsAlikeClock, StandsAlike}
@@ -30,7 +31,7 @@ use Rattle.xk_ranks.proofs.RankWorldLemmas.{act-kept, standing-kept, one_there}
 use Rattle.xk_ranks.proofs.RankStepLaw.{IsFit, marked_alive}
 use Rattle.xk_ranks.proofs.RankLaw.{reached_fit, marked_act, alive_marked, live_by_rank}
 use Rattle.xk_rank_digests.specs.Numbers.{IsOfRank}
-use Rattle.xk_rank_digests.specs.RankLikeness.{IsInnermost, IsLeftAlike, AreSameByRank, AreSameAtRank, AreActsAlike, HaveSameNumbers}
+use Rattle.xk_rank_digests.specs.RankLikeness.{IsInnermost, IsLeftAlike, AreSameByRank, AreSameAtRank, AreActsAlike, HaveAsMany}
 use Rattle.xk_rank_digests.specs.RankLikeness.{AreToldAlike}
 use Rattle.xk_rank_digests.proofs.RootLemmas.{reached_rooted}
 
@@ -376,29 +377,29 @@ stands_of_clock w v k r h = by (slice_get (remains w).clocks k) (slice_get (rema
 
 -- ---- the whole
 
-pub left_alike : (live : SlotTable) (w v : World) → HaveSameNumbers w v
-    → map plain_clock (remains w).clocks ≡ map plain_clock (remains v).clocks → AreActsAlike live w v → IsLeftAlike live w v
-left_alike live w v numbers clocks acts = (
-  (λ i. record { activities = acts.0 i; clocks = clocks i; cells = numbers.2 i; steps = 0; arguments = numbers.3 i }),
+pub left_alike : (live : SlotTable) (w v : World) → HaveAsMany w v
+    → map plain_clock (remains w).clocks ≡ map plain_clock (remains v).clocks → AreActsAlike live w v
+    → IsLeftAlike live (without_cells w) (without_cells v)
+left_alike live w v many clocks acts = (
+  (λ i. record { activities = acts.0 i; clocks = clocks i; cells = []; steps = 0; arguments = many.2 i }),
   acts.1,
   acts.2,
 )
 
-pub left_acts : (live : SlotTable) (w v : World) → IsLeftAlike live w v → AreActsAlike live w v
+pub left_acts : (live : SlotTable) (w v : World) → IsLeftAlike live (without_cells w) (without_cells v) → AreActsAlike live w v
 left_acts live w v h = (ap (λ (z : World). z.activities) h.0, h.1, h.2)
 
-pub left_clocks : (live : SlotTable) (w v : World) → IsLeftAlike live w v
+pub left_clocks : (live : SlotTable) (w v : World) → IsLeftAlike live (without_cells w) (without_cells v)
     → map plain_clock (remains w).clocks ≡ map plain_clock (remains v).clocks
 left_clocks live w v h = ap (λ (z : World). z.clocks) h.0
 
-pub left_numbers : (live : SlotTable) (w v : World) → IsLeftAlike live w v → HaveSameNumbers w v
-left_numbers live w v h = (
+pub left_many : (live : SlotTable) (w v : World) → IsLeftAlike live (without_cells w) (without_cells v) → HaveAsMany w v
+left_many live w v h = (
   sym (length-map (remains w).activities (live_activity live)) ∙ ap (λ (z : World). length z.activities) h.0
       ∙ length-map (remains v).activities (live_activity live),
   sym (length-map w.clocks (clock_kept (going w.activities))) ∙ sym (length-map (remains w).clocks plain_clock)
       ∙ ap (λ (z : World). length z.clocks) h.0
       ∙ length-map (remains v).clocks plain_clock ∙ length-map v.clocks (clock_kept (going v.activities)),
-  ap (λ (z : World). z.cells) h.0,
   ap (λ (z : World). z.arguments) h.0,
 )
 

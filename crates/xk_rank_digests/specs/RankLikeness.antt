@@ -46,7 +46,7 @@ abbrev pub AreActsAlike : SlotTable → World → World → Type 0
 AreActsAlike live w v = (map (live_activity live) (remains w).activities ≡ map (live_activity live) (remains v).activities)
     × AreInnermost w × AreInnermost v
 
--- as many haven't ended, there are as many clocks, and the shared numbers and the arguments are the same
-abbrev pub HaveSameNumbers : World → World → Type 0
-HaveSameNumbers w v = (length (remains w).activities ≡ length (remains v).activities) × (length w.clocks ≡ length v.clocks)
-    × (w.cells ≡ v.cells) × (w.arguments ≡ v.arguments)
+-- as many haven't ended, there are as many clocks, and the arguments are the same
+abbrev pub HaveAsMany : World → World → Type 0
+HaveAsMany w v = (length (remains w).activities ≡ length (remains v).activities) × (length w.clocks ≡ length v.clocks)
+    × (w.arguments ≡ v.arguments)

@@ -4,11 +4,12 @@ ghost use Rattle.std.specs.Prelude.{◌≡◌, ◌<◌, length, IfOk, map};
 ghost use Rattle.std.specs.Bool.{Decides};
 ghost use Rattle.xk_activity.specs.Activities.{act_at};
 ghost use Rattle.xk_live_slots.specs.LiveSlots.{live_of};
+ghost use Rattle.xk_closed.specs.Unread.{without_cells};
 ghost use Rattle.xk_law_commute.specs.PlainWorlds.{plain_clock};
 ghost use Rattle.xk_core.specs.Alikeness.{IsAlikeClock, StandsAlike};
 ghost use Rattle.xk_ranks.specs.Ranks.{remains};
 ghost use Rattle.xk_rank_digests.specs.RankLikeness.{AreActsAlike, AreGovernedAlike, AreSameAtRank, AreSameByRank, AreToldAlike};
-ghost use Rattle.xk_rank_digests.specs.RankLikeness.{HaveSameNumbers, IsLeftAlike};
+ghost use Rattle.xk_rank_digests.specs.RankLikeness.{HaveAsMany, IsLeftAlike};
 
 use crate::ranks::Ranked;
 use std::alloc::{AllocError, Global};
@@ -172,20 +173,19 @@ fn are_same_clocks(one: &Ranked<'_, '_>, other: &Ranked<'_, '_>) -> bool
     true
 }
 
-/// Whether in the other core as many activities haven't ended, and it has as many clocks, the same shared numbers, and was given the same
-/// arguments.
-fn has_same_numbers(one: &Ranked<'_, '_>, other: &Ranked<'_, '_>) -> bool
-    ensures { Decides result (HaveSameNumbers one.now.world other.now.world) }
+/// Whether in the other core as many activities haven't ended, and it has as many clocks, and was given the same arguments.
+fn has_as_many(one: &Ranked<'_, '_>, other: &Ranked<'_, '_>) -> bool
+    ensures { Decides result (HaveAsMany one.now.world other.now.world) }
 {
     let core = one.core();
     let others = other.core();
     one.len() == other.len()
         && core.clocks() == others.clocks()
-        && are_same_numbers(core.cells(), others.cells())
         && are_same_numbers(core.arguments(), others.arguments())
 }
 
-/// Whether what is left of both, without the activities that have ended, is alike where slots are live, and finishes are told.
+/// Whether what is left of both, without the activities that have ended, is alike where slots are live, but for shared
+/// numbers, and finishes are told.
 fn is_same_left(
     live: &LiveSlots<'_>,
     one: &Ranked<'_, '_>,
@@ -193,9 +193,10 @@ fn is_same_left(
 ) -> Result<bool, AllocError>
     requires { other.now.module_run ≡ one.now.module_run }
     ensures { IfOk result (λ same. Decides same
-        (IsLeftAlike (live_of live.now) one.now.world other.now.world)) }
+        (IsLeftAlike (live_of live.now) (without_cells one.now.world)
+        (without_cells other.now.world))) }
 {
-    if !has_same_numbers(one, other) {
+    if !has_as_many(one, other) {
         return Ok(false);
     }
     if !are_same_clocks(one, other) {
@@ -205,8 +206,9 @@ fn is_same_left(
     Ok(same)
 }
 
-/// Whether the worlds of two cores of one module are alike where slots are live, or by rank and with finishes that a core tells: then what
-/// can happen from now on is the same. Err where memory was refused.
+/// Whether the worlds of two cores of one module are alike but for shared numbers: where slots are live, or by rank and
+/// with finishes that a core tells. Then what can happen from now on is the same, if those shared numbers are that may
+/// still be read. Err where memory was refused.
 pub fn are_alike_by_rank(
     alloc: Global,
     live: &LiveSlots<'_>,
@@ -215,7 +217,8 @@ pub fn are_alike_by_rank(
 ) -> Result<bool, AllocError>
     requires { other.now.module_run ≡ core.now.module_run }
     ensures { IfOk result (λ same. Decides same
-        (AreToldAlike (live_of live.now) core.now.world other.now.world)) }
+        (AreToldAlike (live_of live.now) (without_cells core.now.world)
+        (without_cells other.now.world))) }
 {
     if are_alike(live, core, other)? {
         return Ok(true);

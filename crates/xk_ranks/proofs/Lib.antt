@@ -3,3 +3,4 @@ pub mod RankWorldLemmas
 pub mod RankStepLaw
 pub mod RankLaw
 pub mod Examples
+pub mod ReadLaw

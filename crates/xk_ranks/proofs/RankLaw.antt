@@ -174,13 +174,13 @@ module _ (m : ModuleValue) (limits : IsWithinLimits m) (ok : IsAccepted m) where
       step-kept m w (reached_fit m limits ok w here) a x.0 x.1 (alive_marked w.activities a x.0 x.1 at)
 
   -- who can take a step hasn't ended
-  step_marked : (w u : World) (a : ℕ) (e : Event) → step m w a ≡ Stepped u e → IsMarked (going w.activities) a
+  pub step_marked : (w u : World) (a : ℕ) (e : Event) → step m w a ≡ Stepped u e → IsMarked (going w.activities) a
   step_marked w u a e h =
       let x = found_of m w a u e h in
       marked_alive w.activities a x.0 x.1 (alive_of m w a x.0 u e x.1 h)
 
   -- where it is taken there, it is taken here
-  back_step : (w : World) → IsReached m w → (a : ℕ) → IsMarked (going w.activities) a → (z : World) (e : Event)
+  pub back_step : (w : World) → IsReached m w → (a : ℕ) → IsMarked (going w.activities) a → (z : World) (e : Event)
       → step m (remains w) (rank (going w.activities) a) ≡ Stepped z e
       → (u : World) × (step m w a ≡ Stepped u e) × (remains z ≡ remains u)
   back_step w here a at z e h = by (step m w a) refl (remains_step w here a at)
@@ -195,7 +195,7 @@ module _ (m : ModuleValue) (limits : IsWithinLimits m) (ok : IsAccepted m) where
           let s : (z ≡ c.0) × (e ≡ d) = same_step z c.0 e d (sym h ∙ c.1) in
           (u, k ∙ ap (Stepped u) (sym s.1), ap remains s.0 ∙ c.2)
 
-  there_step : (w : World) → IsReached m w → (a : ℕ) → IsMarked (going w.activities) a → (u : World) (e : Event)
+  pub there_step : (w : World) → IsReached m w → (a : ℕ) → IsMarked (going w.activities) a → (u : World) (e : Event)
       → step m w a ≡ Stepped u e
       → (z : World) × (step m (remains w) (rank (going w.activities) a) ≡ Stepped z e) × (remains z ≡ remains u)
   there_step w here a at u e h =
@@ -265,7 +265,7 @@ module _ (m : ModuleValue) (limits : IsWithinLimits m) (ok : IsAccepted m) where
         by status.Arrived h f = ap (instruction_at m) f
         by status.Ended h f = absurd (true≢false h)
 
-    next_alike : (w v : World) → AreAlikeByRank live w v → (a b : ℕ) → HaveOneRank w a v b
+    pub next_alike : (w v : World) → AreAlikeByRank live w v → (a b : ℕ) → HaveOneRank w a v b
         → next_instruction m w a ≡ next_instruction m v b
     next_alike w v same a b one =
         let x = marked_act w.activities a true one.first in

@@ -1,1 +1,2 @@
 pub mod Ranks
+pub mod Reads

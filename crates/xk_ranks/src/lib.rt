@@ -8,6 +8,7 @@ ghost use Rattle.xk_law_commute.specs.Exploration.{AreLedTo, IsIn, NothingIsMiss
 ghost use Rattle.xk_liveness.specs.Liveness.{AreAlikeWhereLive, IsLiveness, SlotTable};
 ghost use Rattle.xk_ranks.specs.Ranks.{AreAlikeByRank, AreReachedAlike, ComesToRemains, GoOnByRank};
 ghost use Rattle.xk_ranks.specs.Ranks.{HaveOneRank, StandAlike, going, rank, remains};
+ghost use Rattle.xk_ranks.specs.Reads.{AreAlikeByReads, AreReachedByReads, Counting, GoOnByReads, IsCounting};
 ghost use Rattle.xk_types.specs.Acceptance.{IsAccepted};
 ghost use Rattle.xk_types.specs.Code.{IsWithinLimits, ModuleValue};
 ghost use Rattle.xk_types.specs.Schedule.{IsReached};
@@ -48,6 +49,27 @@ pub fn ranks()
     ensures back { (m : ModuleValue) (live : SlotTable)
         → IsWithinLimits m → IsAccepted m → IsLiveness m live
         → IsCarried m (λ w v. AreReachedAlike m live v w) }
+{}
+
+/// So do such worlds that differ in shared numbers, too, which nobody can read any more, by a table of what may still be
+/// carried out; they are no fewer than those that are alike by rank.
+pub fn reads()
+    ensures goes { (m : ModuleValue) (c : Counting) (w v : World)
+        → IsWithinLimits m → IsAccepted m → IsCounting m c
+        → IsReached m w → IsReached m v → AreAlikeByReads c w v
+        → GoOnByReads m c w v }
+    ensures stand { (m : ModuleValue) (c : Counting) (w v : World) (a b : ℕ)
+        → IsWithinLimits m → IsAccepted m → IsCounting m c
+        → IsReached m w → IsReached m v → AreAlikeByReads c w v
+        → HaveOneRank w a v b → StandAlike m w a v b }
+    ensures wider { (c : Counting) (w v : World) → AreAlikeByRank c.live w v
+        → AreAlikeByReads c w v }
+    ensures carried { (m : ModuleValue) (c : Counting)
+        → IsWithinLimits m → IsAccepted m → IsCounting m c
+        → IsCarried m (AreReachedByReads m c) }
+    ensures back { (m : ModuleValue) (c : Counting)
+        → IsWithinLimits m → IsAccepted m → IsCounting m c
+        → IsCarried m (λ w v. AreReachedByReads m c v w) }
 {}
 
 /// A search may take a world that was found for each that is alike by rank: by closed sets nothing is missed, and what is

@@ -4,7 +4,7 @@ use Rattle.std.specs.Option.{option_to_list}
 use Rattle.xk_readings.specs.declared.edge.Edge.{Edge}
 use Rattle.xk_readings.specs.NodeSets.{NodeSetValue, with_nodes}
 
--- a way from the first node: where it ends, whose steps it has, and what they print
+-- a way from the first node: where it ends, how its edges are taken, and what they print
 pub record Standing : Type 0 where
   pub node : ℕ
   pub acts : List ℕ

@@ -1,11 +1,11 @@
 //! What is listed.
 
-/// A list of numbers that can be read, with the activities whose steps print it.
+/// A list of numbers that can be read, with how its edges are taken.
 #[derive(Drop)]
 pub struct Reading {
     /// What is printed along the way.
     pub numbers: Vec<i64>,
-    /// Who takes a step after whom.
+    /// How one edge is taken after another: the numbers that they have for that.
     pub acts: Vec<usize>,
 }
 

@@ -7,7 +7,7 @@ use Rattle.xk_readings.specs.Beginnings.{HasMoreSets}
 use Rattle.xk_readings.specs.Counts.{AreAsMany, AreAtLeast, most_counted}
 use Rattle.xk_readings.specs.Graphs.{IsWithin, graph}
 use Rattle.xk_readings.specs.Readings.{IsLongest}
-use Rattle.xk_outcomes.specs.Alikeness.{live_by}
+use Rattle.xk_outcomes.specs.Alikeness.{counted}
 use Rattle.xk_outcomes.specs.Found.{FoundValue, first_found}
 use Rattle.xk_outcomes.specs.Links.{ends}
 use Rattle.xk_outcomes.proofs.FollowLemmas.{links_within}
@@ -19,7 +19,7 @@ how_many-requires-clause-within c =
     let links = c.args.explored.now.links.items in
     subst (λ l. IsWithin (graph l c.ends.result.now)) (sym c.deref.ensures.value)
     (subst (λ over. IsWithin (graph links over)) (sym c.ends.ensures)
-    (links_within (live_by x.like) x.start.module_run x.ways x.all links c.requires.linked))
+    (links_within (counted x.like) x.start.module_run x.ways x.all links c.requires.linked))
 
 pub how_many-requires-clause-some : goal.how_many-requires-clause-some
 how_many-requires-clause-some c =

@@ -1,6 +1,6 @@
 use Rattle.std.proofs.Common.{◌≡◌, ◌∙◌, inl, Some, false, sym, subst, slice_get, true≢false}
 use Rattle.xk_core.specs.Core.{CoreValue, opening_core}
-use Rattle.xk_outcomes.specs.Alikeness.{live_by}
+use Rattle.xk_outcomes.specs.Alikeness.{counted}
 use Rattle.xk_outcomes.specs.Found.{first_found}
 use Rattle.xk_outcomes.specs.Links.{AreLinked}
 use Rattle.xk_outcomes.specs.Listing.{ArePlayed}
@@ -21,7 +21,7 @@ pub count_readings-requires-clause-linked : goal.count_readings-requires-clause-
 count_readings-requires-clause-linked c =
     let x = c.in_ok-explored.explored in
     let is = c.in_ok-explored.ensures in
-    subst (λ (s : CoreValue). AreLinked (live_by x.found.like) s.module_run x.found.ways x.found.all x.links.items) (sym is.begun) is.linked
+    subst (λ (s : CoreValue). AreLinked (counted x.found.like) s.module_run x.found.ways x.found.all x.links.items) (sym is.begun) is.linked
 
 pub returns-then-read-clause-least : goal.returns-then-read-clause-least
 returns-then-read-clause-least c =

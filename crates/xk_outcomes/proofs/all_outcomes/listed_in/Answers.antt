@@ -2,7 +2,7 @@ use Rattle.std.specs.Prelude.{max}
 use Rattle.std.proofs.Common.{◌∙◌, ◌<◌, ◌≤◌, arith, List, length, inl, inr, true≢false, sym, subst}
 use Rattle.xk_core.specs.Core.{CoreValue}
 use Rattle.xk_outcomes.specs.declared.listing.Outcome.{Outcome}
-use Rattle.xk_outcomes.specs.Alikeness.{live_by}
+use Rattle.xk_outcomes.specs.Alikeness.{counted}
 use Rattle.xk_outcomes.specs.Links.{AreLinked}
 use Rattle.xk_outcomes.specs.Listing.{AreAllIn, AreOf, AreShownIn, HasKeptIn}
 use Rattle.xk_outcomes.specs.Numbering.{AreNumberedIn}
@@ -18,7 +18,7 @@ pub list_found-requires : goal.list_found-requires
 list_found-requires c =
     let x = c.args.explored.now in
     let is = c.requires.explored in
-    subst (λ (s : CoreValue). AreLinked (live_by x.found.like) s.module_run x.found.ways x.found.all x.links.items) (sym is.begun) is.linked
+    subst (λ (s : CoreValue). AreLinked (counted x.found.like) s.module_run x.found.ways x.found.all x.links.items) (sym is.begun) is.linked
 
 pub returns-clause-shown : goal.returns-clause-shown
 returns-clause-shown c =
@@ -85,7 +85,7 @@ returns-clause-kept c =
     let is = c.requires.explored in
     let kept = all_kept c.args.order x.found.like is.told m args most x.found.ways x.found.all x.links.items c.list_found.new.list
     c.in_ok-all.all
-    is.found is.linked is.liveness is.rest is.different c.in_ok-all.ensures.met c.in_ok-all.ensures.limit in
+    is.found is.linked is.counting is.rest is.different c.in_ok-all.ensures.met c.in_ok-all.ensures.limit in
     subst (HasKeptIn c.args.order m args most c.in_ok-list.list.items) (sym c.len.ensures.count)
     (subst (λ (list : List Outcome). HasKeptIn c.args.order m args most list (length x.found.all)) (sym c.in_ok-list.ensures) kept)
 

@@ -2,7 +2,7 @@ use Rattle.std.proofs.Common.{◌∙◌, arith, length, subst, sym, true≢false
 use Rattle.xk_readings.specs.Graphs.{IsWithin, graph}
 use Rattle.xk_readings.specs.Readings.{AreAllListed, AreShown}
 use Rattle.xk_readings.specs.Rising.{AreFirst, AreRising}
-use Rattle.xk_outcomes.specs.Alikeness.{live_by}
+use Rattle.xk_outcomes.specs.Alikeness.{counted}
 use Rattle.xk_outcomes.specs.Listing.{AreReadingsPut}
 use Rattle.xk_outcomes.specs.Numbering.{AreAddedFrom, ArePlayedAll, AreReadingsFirst}
 use Rattle.xk_outcomes.proofs.NumberingLemmas.{in_order, played_all, readings_most}
@@ -16,7 +16,7 @@ readings-requires-clause-within c =
     let all = c.args.all.now.all in
     let links = c.args.links.now in
     subst (λ over. IsWithin (graph links over)) (sym c.ends.ensures)
-    (links_within (live_by c.args.all.now.like) c.args.all.now.start.module_run c.args.all.now.ways all links c.requires)
+    (links_within (counted c.args.all.now.like) c.args.all.now.start.module_run c.args.all.now.ways all links c.requires)
 
 pub returns-clause-read : goal.returns-clause-read
 returns-clause-read c done =

@@ -8,7 +8,7 @@ use Rattle.xk_outcomes.specs.Found.{FoundValue, through}
 use Rattle.xk_outcomes.specs.Links.{AreLinked, HasLink}
 use Rattle.xk_outcomes.specs.Search.{HasAfter, IsAdded}
 use Rattle.xk_outcomes.specs.Ways.{IsWay, way_of}
-use Rattle.xk_outcomes.specs.Alikeness.{Alikeness, live_by}
+use Rattle.xk_outcomes.specs.Alikeness.{Alikeness, counted}
 use Rattle.xk_outcomes.proofs.FoundLemmas.{one_behind}
 use Rattle.xk_outcomes.proofs.SearchLemmas.{added_link, added_there, grown_push, linked_push, linked_wider}
 use Rattle.xk_outcomes.proofs.TripLemmas.{after_trip}
@@ -63,18 +63,18 @@ returns-clause-linked c linked =
     ∙ ap (λ ns. slice_get ns (length here.printed)) (after ∙ all_printed) ∙ one_behind here.printed t.said in
     let is_way : IsWay m here (way_of wider l.act) l.printed =
     subst (IsWay m here (way_of wider l.act)) (sym said) (subst (λ way. IsWay m here way t.said) (sym w.1) t.is_way) in
-    let start : AreLinked (live_by c.args.all.now.like) m wider c.args.all.now.all old =
-    linked_wider (live_by c.args.all.now.like) m ways wider c.args.way.items c.args.all.now.all old c.in_ok-way.ensures.added.1 linked in
+    let start : AreLinked (counted c.args.all.now.like) m wider c.args.all.now.all old =
+    linked_wider (counted c.args.all.now.like) m ways wider c.args.way.items c.args.all.now.all old c.in_ok-way.ensures.added.1 linked in
     let same = c.add_way.ensures.all in
     let like = c.add_way.ensures.like in
-    subst (λ (ws : List (List ℕ)). AreLinked (live_by c.add.new.self.like) m ws c.add.new.self.all c.push_reserved.new.self.items)
+    subst (λ (ws : List (List ℕ)). AreLinked (counted c.add.new.self.like) m ws c.add.new.self.all c.push_reserved.new.self.items)
     (sym c.add.ensures.ways)
-    (subst (λ (o : Alikeness). AreLinked (live_by o) m wider c.add.new.self.all c.push_reserved.new.self.items)
+    (subst (λ (o : Alikeness). AreLinked (counted o) m wider c.add.new.self.all c.push_reserved.new.self.items)
     (sym c.in_ok-to.ensures.like)
     (linked_push m c.add_way.new.self.like wider c.add_way.new.self.all c.add.new.self.all old c.push_reserved.new.self.items l here
     c.args.new.now
-    (subst (λ (o : Alikeness). AreLinked (live_by o) m wider c.add_way.new.self.all old) (sym like)
-    (subst (λ all. AreLinked (live_by c.args.all.now.like) m wider all old) (sym same) start))
+    (subst (λ (o : Alikeness). AreLinked (counted o) m wider c.add_way.new.self.all old) (sym like)
+    (subst (λ all. AreLinked (counted c.args.all.now.like) m wider all old) (sym same) start))
     (ap (λ all. slice_get all c.args.number) same ∙ c.requires.there) w.0 is is_way c.in_ok-to.ensures.added
     (c.push_reserved.ensures.items ∙ ap (λ (e : List Edge). e ++ l ∷ []) c.reserve.ensures.items)))
 

@@ -1,7 +1,7 @@
 use Rattle.std.proofs.Common.{◌∙◌, ◌<◌, length, ap, arith, refl, subst, sym}
 use Rattle.xk_types.specs.Code.{ModuleValue}
 use Rattle.xk_core.specs.Core.{CoreValue}
-use Rattle.xk_outcomes.specs.Alikeness.{Alikeness, live_by}
+use Rattle.xk_outcomes.specs.Alikeness.{Alikeness, counted}
 use Rattle.xk_outcomes.specs.Links.{AreLinked}
 use Rattle.xk_outcomes.specs.Search.{AreExpanded, IsExpanded}
 use Rattle.xk_outcomes.proofs.SearchLemmas.{expanded_more, longer}
@@ -38,8 +38,8 @@ loop-next-preserved c =
       start = c.expand.ensures.start ∙ c.loop-next.invariant.start;
       like = c.expand.ensures.like ∙ c.loop-next.invariant.like;
       grown = λ k x h. c.expand.ensures.grown k x (c.loop-next.invariant.grown k x h);
-      linked = λ h. subst (λ (k : ModuleValue). AreLinked (live_by like) k c.expand.new.all.ways new more) same_module
-          (c.in_ok-expand.ensures.linked (subst (λ (k : ModuleValue). AreLinked (live_by c.loop-next.all.like) k c.loop-next.all.ways old
+      linked = λ h. subst (λ (k : ModuleValue). AreLinked (counted like) k c.expand.new.all.ways new more) same_module
+          (c.in_ok-expand.ensures.linked (subst (λ (k : ModuleValue). AreLinked (counted c.loop-next.all.like) k c.loop-next.all.ways old
           links) (sym same_module) (c.loop-next.invariant.linked h)));
       expanded = expanded_more m like old new links more at inside c.expand.ensures.grown c.expand.ensures.more
           (subst (λ (o : Alikeness). AreExpanded m o old links at) (sym c.expand.ensures.like) c.loop-next.invariant.expanded) (λ x there.

@@ -1,5 +1,5 @@
 use Rattle.std.proofs.Common.{◌≡◌, ◌≤◌, ◌-◌, length}
-use Rattle.xk_outcomes.specs.Alikeness.{live_by}
+use Rattle.xk_outcomes.specs.Alikeness.{counted}
 use Rattle.xk_outcomes.specs.Links.{AreLinked}
 use Rattle.xk_outcomes.specs.Search.{AreExpanded, IsGrown}
 use Rattle.xk_outcomes.proofs.search.search.Given as goal
@@ -10,8 +10,8 @@ invariant-loop-next l = record {
   start : l.all.start ≡ l.fn.all.start;
   like : l.all.like ≡ l.fn.all.like;
   grown : IsGrown l.fn.all.all l.all.all;
-  linked : AreLinked (live_by l.fn.all.like) l.fn.all.start.module_run l.fn.all.ways l.fn.all.all l.fn.links.items
-      → AreLinked (live_by l.all.like) l.fn.all.start.module_run l.all.ways l.all.all l.links.items;
+  linked : AreLinked (counted l.fn.all.like) l.fn.all.start.module_run l.fn.all.ways l.fn.all.all l.fn.links.items
+      → AreLinked (counted l.all.like) l.fn.all.start.module_run l.all.ways l.all.all l.links.items;
   expanded : AreExpanded l.fn.all.start.module_run l.all.like l.all.all l.links.items l.next;
   within : l.next ≤ length l.all.all;
 }

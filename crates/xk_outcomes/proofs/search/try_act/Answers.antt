@@ -1,6 +1,6 @@
 use Rattle.std.proofs.Common.{◌≡◌, ◌∙◌, Err, Ok, Result, Some, ap, arith, length, slice_get, subst, sym}
 use Rattle.std.specs.Prelude.{OnOk}
-use Rattle.xk_outcomes.specs.Alikeness.{live_by}
+use Rattle.xk_outcomes.specs.Alikeness.{counted}
 use Rattle.xk_outcomes.specs.Entries.{EntriesValue}
 use Rattle.xk_outcomes.specs.Found.{FoundValue}
 use Rattle.xk_outcomes.specs.Links.{AreLinked}
@@ -36,7 +36,7 @@ returns-clause-grown c k x there =
 
 pub returns-clause-linked : goal.returns-clause-linked
 returns-clause-linked c = anyway c.keep.result (λ before.
-    subst (λ (e : EntriesValue). AreLinked (live_by e.like) c.args.here.now.core.module_run e.ways e.all c.link_after.new.links.items)
+    subst (λ (e : EntriesValue). AreLinked (counted e.like) c.args.here.now.core.module_run e.ways e.all c.link_after.new.links.items)
     (sym c.keep.ensures)
     (c.in_ok-to.ensures.linked before))
 

@@ -12,7 +12,7 @@ pub loop-a-preserved : goal.loop-a-preserved
 loop-a-preserved c =
     let live = live_of c.args.live.now in
     let w = c.args.core.now.world in
-    let first = with_numbers (with_numbers 0 c.args.printed.now) w.cells in
+    let first = with_numbers (with_numbers 0 c.args.printed.now) c.args.cells.now in
     let inside : c.loop-a.a < length w.activities = omega (arith, c.loop-a-test.true, c.activities-a-end.ensures.count) in
     elim c.if-is_living.branch [
       | then-is_living b ↦ more_living live first w c.loop-a.a c.loop-a.digest c.if-is_living.digest inside c.is_living.result
@@ -25,7 +25,7 @@ pub returns : goal.returns
 returns c =
     let live = live_of c.args.live.now in
     let w = c.args.core.now.world in
-    let first = with_numbers (with_numbers 0 c.args.printed.now) w.cells in
+    let first = with_numbers (with_numbers 0 c.args.printed.now) c.args.cells.now in
     c.loop-a.invariant
     ∙ ap (fold (with_going live) first) (take_all c.loop-a.a w.activities (omega (arith, c.loop-a-test.false, c.activities-a-end.ensures.count)))
-    ∙ stepwise live w c.args.printed.now
+    ∙ stepwise live (record w { cells = c.args.cells.now }) c.args.printed.now

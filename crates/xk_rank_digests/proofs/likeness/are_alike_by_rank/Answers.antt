@@ -1,5 +1,6 @@
 use Rattle.std.proofs.Common.{inl, inr, refl, sym, ◌∙◌, subst, Decides}
 use Rattle.std.proofs.lemmas.Bool.{false≢true}
+use Rattle.xk_closed.specs.Unread.{without_cells}
 use Rattle.xk_core.specs.Core.{CoreValue}
 use Rattle.xk_live_slots.specs.LiveSlots.{live_of}
 use Rattle.xk_rank_digests.specs.RankLikeness.{IsLeftAlike}
@@ -13,10 +14,10 @@ returns c =
     let live = live_of c.args.live.now in
     let w = c.args.core.now.world in
     let v = c.args.other.now.world in
-    let d : Decides c.in_ok-same.same (IsLeftAlike live w v) =
-    subst (λ (z : CoreValue). Decides c.in_ok-same.same (IsLeftAlike live z.world v)) c.in_ok-one.ensures
+    let d : Decides c.in_ok-same.same (IsLeftAlike live (without_cells w) (without_cells v)) =
+    subst (λ (z : CoreValue). Decides c.in_ok-same.same (IsLeftAlike live (without_cells z.world) (without_cells v))) c.in_ok-one.ensures
     (subst (λ (z : CoreValue). Decides c.in_ok-same.same
-    (IsLeftAlike live c.in_ok-one.one.world z.world)) c.in_ok-two.ensures c.in_ok-same.ensures) in (
+    (IsLeftAlike live (without_cells c.in_ok-one.one.world) (without_cells z.world))) c.in_ok-two.ensures c.in_ok-same.ensures) in (
       λ q. inr (d.0 q),
       λ h. elim h [
         | inl a ↦ absurd (false≢true (sym c.if-branch.false ∙ c.in_ok-are_alike.ensures.1 a))

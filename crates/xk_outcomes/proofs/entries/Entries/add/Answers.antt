@@ -29,7 +29,7 @@ known-requires-clause-found c =
 pub invariant_of-self-2 : goal.invariant_of-self-2
 invariant_of-self-2 c =
     let start = c.self.inside.start in
-    let like : Alikeness = record { order = c.self.inside.order; slots = c.self.inside.live } in
+    let like : Alikeness = record { order = c.self.inside.order; counts = c.self.inside.counts } in
     let edges = c.self.inside.edges.items in
     let ways : List (List ℕ) = ways_in c.self.inside.ways.items in
     let digests = c.self.inside.digests in

@@ -15,7 +15,7 @@ pub invariant_of-self-2 : goal.invariant_of-self-2
 invariant_of-self-2 c =
     let old = c.self.inside.ways.items in
     let more = c.push_reserved.ensures.items ∙ ap (λ (l : List (Vec ℕ)). l ++ c.args.way ∷ []) c.reserve.ensures.items in
-    let like : Alikeness = record { order = c.self.inside.order; slots = c.self.inside.live } in
+    let like : Alikeness = record { order = c.self.inside.order; counts = c.self.inside.counts } in
     entries_wider c.self.inside.start like (ways_in old) (ways_in c.push_reserved.new.self.items) c.args.way.items c.self.inside.edges.items
     c.self.inside.digests c.self.inside.over.items c.self.inside.checkpoints.items
     (wider_by old c.push_reserved.new.self.items c.args.way more)

@@ -15,7 +15,7 @@ invariant_of-self-2 c =
     subst (λ (e : EntriesValue). slice_get e.all c.args.number ≡ Some c.args.x) (sym c.self.view_is) c.requires in
     record {
       root = c.self.invariant.root;
-      liveness = c.self.invariant.liveness;
+      counting = c.self.invariant.counting;
       behind = c.self.invariant.behind;
       digests_are = c.self.invariant.digests_are;
       over_are = c.self.invariant.over_are;

@@ -4,7 +4,7 @@ use Rattle.xk_types.specs.Bound.{steps_bound}
 use Rattle.xk_types.specs.Code.{IsWithinLimits}
 use Rattle.xk_readings.specs.Graphs.{graph}
 use Rattle.xk_readings.specs.Readings.{IsLongest}
-use Rattle.xk_outcomes.specs.Alikeness.{live_by}
+use Rattle.xk_outcomes.specs.Alikeness.{counted}
 use Rattle.xk_outcomes.specs.Entries.{EntriesValue, led_by}
 use Rattle.xk_outcomes.specs.Ways.{ways_in}
 use Rattle.xk_outcomes.specs.Links.{AreLinked, ends}
@@ -21,10 +21,10 @@ returns-clause-longest c links linked =
     let all = led_by ways start c.self.inside.edges.items in
     let limits = subst IsWithinLimits c.module-verified.ensures.same c.module-accepted.ensures.limits in
     let accepted = subst IsAccepted c.module-verified.ensures.same c.module-accepted.ensures.accepted in
-    let live = live_by (record { order = c.self.inside.order; slots = c.self.inside.live }) in
-    let here : AreLinked live start.module_run ways all links =
-    subst (λ (e : EntriesValue). AreLinked (live_by e.like) e.start.module_run e.ways e.all links) (sym c.self.view_is) linked in
-    let longest = longest_read start live c.self.invariant.liveness ways all links here (all_led ways start c.self.inside.edges.items)
+    let counts = counted (record { order = c.self.inside.order; counts = c.self.inside.counts }) in
+    let here : AreLinked counts start.module_run ways all links =
+    subst (λ (e : EntriesValue). AreLinked (counted e.like) e.start.module_run e.ways e.all links) (sym c.self.view_is) linked in
+    let longest = longest_read start counts c.self.invariant.counting ways all links here (all_led ways start c.self.inside.edges.items)
     (first_there ways start c.self.inside.edges.items) limits accepted
     c.module-verified.ensures.taken (c.module-verified.ensures.opening c.self.invariant.root) in
     let bound = c.steps.ensures ∙ ap steps_bound c.module-verified.ensures.same in
@@ -38,10 +38,10 @@ returns-clause-played c links linked =
     let all = led_by ways start edges in
     let limits = subst IsWithinLimits c.module-verified.ensures.same c.module-accepted.ensures.limits in
     let accepted = subst IsAccepted c.module-verified.ensures.same c.module-accepted.ensures.accepted in
-    let live = live_by (record { order = c.self.inside.order; slots = c.self.inside.live }) in
-    let here : AreLinked live start.module_run ways all links =
-    subst (λ (e : EntriesValue). AreLinked (live_by e.like) e.start.module_run e.ways e.all links) (sym c.self.view_is) linked in
+    let counts = counted (record { order = c.self.inside.order; counts = c.self.inside.counts }) in
+    let here : AreLinked counts start.module_run ways all links =
+    subst (λ (e : EntriesValue). AreLinked (counted e.like) e.start.module_run e.ways e.all links) (sym c.self.view_is) linked in
     subst (λ (e : EntriesValue). ArePlayed e.start e.ways e.all links) c.self.view_is
-    (played start live c.self.invariant.liveness ways all links here (all_led ways start edges) (first_there ways start edges) limits
+    (played start counts c.self.invariant.counting ways all links here (all_led ways start edges) (first_there ways start edges) limits
     accepted
     c.module-verified.ensures.taken (c.module-verified.ensures.opening c.self.invariant.root))
