@@ -11,6 +11,6 @@ returns t c =
     one_reads c.args.frames.now c.up.new.self rest c.reads_at-behind.result c.reads_waiting.result
     (ap (λ (b : Bool). (b, c.up.new.self)) (sym c.if-not-up.false) ∙ c.up.ensures)
     (λ d s. c.reads_at-behind.ensures d s
-        ∙ ap (λ u. rest u (c.place.result + 1) (instr.Get d s)) c.unit.ensures
-        ∙ ap (λ p. rest c.up.new.self.frame.unit (p + 1) (instr.Get d s)) c.place.ensures)
+    ∙ ap (λ u. rest u (c.place.result + 1) (instr.Get d s)) c.unit.ensures
+    ∙ ap (λ p. rest c.up.new.self.frame.unit (p + 1) (instr.Get d s)) c.place.ensures)
     c.reads_waiting.ensures
