@@ -1,4 +1,4 @@
-// Once somebody has written, nobody reads again what they read: so 338 worlds are enough, where 973 are told apart by it.
+// Who of the four has ended does not count, and no world is kept where there is no choice: so 69 worlds are enough.
 shared s = 0;
 def main() {
     finish for (who in 1..4) async {
