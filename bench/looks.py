@@ -144,15 +144,15 @@ class Looker:
         self.timed("1,000 runs of lost-updates", "run", "--order", "random", "--runs", "1000", example)
 
     def worlds(self, path: pathlib.Path) -> int:
-        """The worlds that the search of a program keeps: the least limit with a complete answer, if there is one."""
-        if self.once(("outcomes", path)).status:
+        """The worlds that the search of a program keeps: the least limit with a complete count, if there is one."""
+        if self.once(("outcomes", "--count", path)).status:
             return LIMIT
         limits = range(1, LIMIT)
         return bisect.bisect_left(limits, True, key=lambda most: self.is_complete(path, most)) + 1
 
     def is_complete(self, path: pathlib.Path, most: int) -> bool:
         """Whether a search that keeps at most so many worlds is complete."""
-        return self.once(("outcomes", "--limit", most, path)).status == 0
+        return self.once(("outcomes", "--count", "--limit", most, path)).status == 0
 
     def all_outcomes(self, path: pathlib.Path, is_counted: bool) -> None:
         """All that a program prints; and how many worlds are kept for that, where that is asked."""

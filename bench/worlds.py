@@ -4,8 +4,9 @@
     python3 -m bench.worlds [--program PATH] [MODEL ..]
 
 Prints for each model a line (bench/results.py): how many lists of numbers it has; the worlds that are kept, which is
-the least `--limit` with a complete answer (from 40,000 on to within a hundredth); and processor time and memory of the
-search. Worlds and lists lack where the search has more than a million of them. Needs GNU time.
+the least `--limit` with which a count is complete (from 40,000 on to within a hundredth; it bounds the sets of worlds,
+too, that are met in reading); and processor time and memory of the list, or of the count where there are more than a
+million lists. Worlds and lists lack where the search has more than a million worlds. Needs GNU time.
 """
 
 from __future__ import annotations
@@ -35,12 +36,17 @@ class Search:
     program: pathlib.Path
     path: pathlib.Path
 
-    def within(self, most: int) -> Spent:
+    def within(self, most: int, *options: str) -> Spent:
         """The search that keeps at most so many worlds."""
-        return spent_alone([self.program, "outcomes", "--limit", most, self.path])
+        return spent_alone([self.program, "outcomes", *options, "--limit", most, self.path])
 
     def is_complete(self, most: int) -> bool:
-        return self.within(most).status == 0
+        return self.within(most, "--count").status == 0
+
+    def whole(self) -> Spent:
+        """The list, or the count where that is too long."""
+        listed = self.within(MOST)
+        return listed if listed.status == 0 else self.within(MOST, "--count")
 
     def worlds(self) -> int | None:
         """The least limit with a complete answer: doubled until there is one, and then halved in between."""
@@ -65,7 +71,7 @@ def ours(program: pathlib.Path, path: pathlib.Path) -> dict[str, float]:
     """What the search finds, keeps and takes."""
     search = Search(program, path)
     worlds = search.worlds()
-    took = search.within(MOST)
+    took = search.whole()
     counts = {"lists": lists_told(took)} if took.status == 0 else {}
     kept = {} if worlds is None else {"worlds": worlds}
     return {**counts, **kept, "seconds": took.seconds, "megabytes": round(took.megabytes)}
