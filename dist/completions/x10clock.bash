@@ -1,4 +1,4 @@
-# Completions of x10clock 1.4.0 for bash, which dist/manual.py writes. Bash finds them in
+# Completions of x10clock 1.5.0 for bash, which dist/manual.py writes. Bash finds them in
 # ~/.local/share/bash-completion/completions, as x10clock.
 _x10clock() {
     local word=${COMP_WORDS[COMP_CWORD]} before=${COMP_WORDS[COMP_CWORD - 1]} command='' words='' at

@@ -1,4 +1,4 @@
-# Completions of x10clock 1.4.0 for fish, which dist/manual.py writes. Fish finds them in
+# Completions of x10clock 1.5.0 for fish, which dist/manual.py writes. Fish finds them in
 # ~/.config/fish/completions.
 complete -c x10clock -f
 complete -c x10clock -n __fish_use_subcommand -a check -d 'Says whether a program is accepted.'
