@@ -52,7 +52,7 @@ WHOLE_TEXTS = (
 # Texts that are no programs: those that take about the same are told of together.
 OTHER_TEXTS = (
     (
-        "1 MiB of `{`, `-` or `(` in `main`; of `/*` over and over, digits or one name",
+        "1 MiB of `{`, `-` or `(` in `main`; of `/*` repeated, digits or one name",
         (("1 MiB of {", "1 MiB of -", "1 MiB of ("), ("1 MiB of /*", "1 MiB of digits", "1 MiB of one name")),
     ),
     ("1 MiB of `;` in `main`", (("1 MiB of ;",),)),
